@@ -2,7 +2,8 @@
 use mathlib.Core.Path.{_≡_, refl, ap}
 use mathlib.Core.Bool.{Bool, true, false, cond}
 use mathlib.Core.List.{List, [], _∷_}
-use Prim.Native.Nat.{ℕ, suc, _+_, _<_, _≤_}
+use Prim.Native.Nat.{ℕ, zero, suc, _+_, _<_, _≤_}
+use native.Mathlib.Nat.{le-of-suc-le-suc}
 use native.Mathlib.Omega.{arith}
 use lib.ListN.{length, getD, drop}
 use Rattle.std.specs.Options.{mapped}
@@ -31,3 +32,14 @@ bad-start (Some k) = ap (λ (n : ℕ). Some n) (omega arith)
 
 pub bad-end : {X : Type 0} (p : X → Bool) (xs : List X) (i : ℕ) → length xs ≤ i → mapped (λ k. i + k) (firstBad p (drop i xs)) ≡ None
 bad-end p xs i h = ap (λ (o : Option ℕ). mapped (λ k. i + k) o) (at-drop-all (firstBad p) xs i h)
+
+none-cond : (b : Bool) (o : Option ℕ) → cond b (mapped (λ k. suc k) o) (Some 0) ≡ None → (b ≡ true) × (o ≡ None)
+none-cond true None e = (refl, refl)
+none-cond true (Some k) e = grind arith
+none-cond false o e = grind arith
+
+-- where none is bad, each entry passes
+pub none-bad : {X : Type 0} (p : X → Bool) (xs : List X) (i : ℕ) (d : X) → firstBad p xs ≡ None → i < length xs → p (getD xs i d) ≡ true
+none-bad p [] i d e lt = absurd (omega arith)
+none-bad p (x ∷ xs) zero d e lt = none-cond (p x) (firstBad p xs) e .0
+none-bad p (x ∷ xs) (suc i) d e lt = none-bad p xs i d (none-cond (p x) (firstBad p xs) e .1) (le-of-suc-le-suc lt)

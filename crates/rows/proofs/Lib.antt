@@ -1,2 +1,4 @@
 pub mod Firsts
+pub mod Named
+pub mod Ranges
 pub mod Tables

@@ -1,5 +1,7 @@
 ghost use mathlib.Core.Path.{_≡_};
 ghost use mathlib.Core.Bool.{true, cond};
+ghost use lib.IntN.{pos, negℤ};
+ghost use lib.Signed.{_≤ℤ_};
 ghost use Rattle.std.specs.declared.result.Result.the-variants.{Ok, Err};
 ghost use Rattle.refusals.specs.Numbers.{toldBy, refusedAt};
 ghost use Rattle.rows.specs.Ranges.{constraintOk, pointOk, priceOk, resourcePricesOk};
@@ -53,7 +55,9 @@ fn price_ok(value: i32) -> bool
 /// The price of a point, of a number in range.
 fn point_price(value: i32) -> Price
     requires { ⌜ priceOk value ≡ true ⌝ }
-    ensures { λ r. ⌜ r .value ≡ value ⌝ }
+    ensures value { λ r. ⌜ r .value ≡ value ⌝ }
+    ensures low { λ r. ⌜ negℤ (pos 1000000) ≤ℤ r .value ⌝ }
+    ensures high { λ r. ⌜ r .value ≤ℤ pos 1000000 ⌝ }
 {
     Price { value }
 }

@@ -1,6 +1,8 @@
 ghost use mathlib.Core.Path.{_≡_};
 ghost use mathlib.Core.Bool.{true};
-ghost use Rattle.rows.specs.Ranges.{priceOk, resourcePricesOk};
+ghost use lib.IntN.{pos, negℤ};
+ghost use lib.Signed.{_≤ℤ_};
+ghost use Rattle.rows.specs.Ranges.{resourcePricesOk};
 use crate::letters::PointKind;
 use units::Price;
 
@@ -12,8 +14,11 @@ pub struct Point {
     pub price: Price,
     pub minimum: Price,
     pub maximum: Price,
-    ghost price_range: { priceOk (price .value) ≡ true },
-    ghost minimum_range: { priceOk (minimum .value) ≡ true },
-    ghost maximum_range: { priceOk (maximum .value) ≡ true },
+    ghost price_low: { negℤ (pos 1000000) ≤ℤ price .value },
+    ghost price_high: { price .value ≤ℤ pos 1000000 },
+    ghost minimum_low: { negℤ (pos 1000000) ≤ℤ minimum .value },
+    ghost minimum_high: { minimum .value ≤ℤ pos 1000000 },
+    ghost maximum_low: { negℤ (pos 1000000) ≤ℤ maximum .value },
+    ghost maximum_high: { maximum .value ≤ℤ pos 1000000 },
     ghost resource: { resourcePricesOk kind (minimum .value) (maximum .value) ≡ true },
 }

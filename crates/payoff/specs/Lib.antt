@@ -1,0 +1,6 @@
+pub mod Tables
+pub mod Prices
+pub mod Rules
+pub mod Instruments
+pub mod Letters
+pub mod View
