@@ -1,5 +1,5 @@
 -- The instruments keep the payoff rules.
-use mathlib.Core.Path.{_≡_, refl, sym}
+use mathlib.Core.Path.{_≡_, refl, sym, subst}
 use mathlib.Core.Bool.{Bool, true, false, cond, _&&_, not}
 use Prim.Native.Nat.{ℕ, _*_, _≤_, _<_, min}
 use native.Mathlib.Omega.{arith}
@@ -138,6 +138,10 @@ refund-by t h false None w = tt
 
 pub refund-lawful : (m : Meaning) (t : Tables) (h : HoldingRow) → Lawful t h (m t h) → Lawful t h (refund m t h)
 refund-lawful m t h w = refund-by t h (refundable (endsOf t h)) (m t h) w
+
+-- what is served keeps the rules
+pub served-at : (t : Tables) (h : HoldingRow) (o : Option Payoff) (f : Payoff) → Lawful t h o → Some f ≡ o → Served t h f
+served-at t h o f w e = subst (λ (x : Option Payoff). Lawful t h x) (sym e) w
 
 -- what is not on the table is not served
 pub unserved : (t : Tables) (h : HoldingRow) (o : Option Payoff) → Lawful t h o → pairOk t h ≡ false → o ≡ None
