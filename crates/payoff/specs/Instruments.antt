@@ -9,11 +9,12 @@ use Rattle.std.specs.Options.{mapped}
 use Rattle.std.specs.declared.option.Option.{Option}
 use Rattle.std.specs.declared.option.Option.the-variants.{Some, None}
 use Rattle.rows.specs.declared.plain.HoldingRow.{HoldingRow}
+use Rattle.rows.specs.declared.letters.InstrumentKind.the-variants.{Obligation, PtpOption, ObligationWithRefund, OptionWithRefund}
 use Rattle.payoff.specs.declared.letters.LetterSet.{LetterSet}
 use Rattle.payoff.specs.Tables.{Tables, servable, endsOf}
 use Rattle.payoff.specs.Prices.{spread, floorPrice, refundable, derationPrice}
 use Rattle.payoff.specs.Rules.{Payoff, Meaning}
-use Rattle.payoff.specs.Letters.{hasLetter}
+use Rattle.payoff.specs.Letters.{hasLetter, noLetters, withKind}
 
 -- the four figures of a holding at a target price, with the quantity held
 abbrev pub figuresAt : Tables → HoldingRow → ℤ → Payoff
@@ -47,3 +48,8 @@ refund inner t h = cond (refundable (endsOf t h)) (mapped (refunded h) (inner t 
 -- the first of two instruments whose set has the holding's letter
 abbrev pub choice : Meaning → LetterSet → Meaning → LetterSet → Meaning
 choice first ls second ms t h = cond (hasLetter ls (h .letter)) (first t h) (cond (hasLetter ms (h .letter)) (second t h) None)
+
+-- each letter under its own instrument: B and O plain, b and o with Refund
+abbrev pub standard : Meaning
+standard =
+    choice (choice obligation (withKind noLetters Obligation) ptpOption (withKind noLetters PtpOption)) (withKind (withKind noLetters Obligation) PtpOption) (choice (refund obligation) (withKind noLetters ObligationWithRefund) (refund ptpOption) (withKind noLetters OptionWithRefund)) (withKind (withKind noLetters ObligationWithRefund) OptionWithRefund)

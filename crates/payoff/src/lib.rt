@@ -11,6 +11,7 @@ mod pairing;
 mod plain;
 mod prices;
 mod refund;
+mod standard;
 mod tested;
 mod testing;
 
@@ -26,5 +27,7 @@ pub use plain::PtpOption;
 pub use plain::PtpOptionInstrument;
 pub use refund::Refund;
 pub use refund::RefundInstrument;
+pub use standard::StandardInstrument;
+pub use standard::standard_instrument;
 pub use tested::TestedTables;
 pub use testing::test_tables;

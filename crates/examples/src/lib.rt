@@ -1,0 +1,4 @@
+//! The settled examples.
+mod settled;
+
+pub use settled::settled_examples;
