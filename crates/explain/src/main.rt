@@ -2,12 +2,12 @@
 mod hour;
 
 use explanation::explain_holdings;
-use payoff::standard_instrument;
-use std::error::AnyError;
 use payoff::ChoiceInstrument;
 use payoff::ObligationInstrument;
 use payoff::PtpOptionInstrument;
 use payoff::RefundInstrument;
+use payoff::standard_instrument;
+use std::error::AnyError;
 
 fn main(rt: LibcRuntime) -> Result<(), AnyError> {
     let text = explain_holdings(

@@ -8,7 +8,7 @@ use lib.Dec.{ltb, eqb}
 use lib.IntN.{ℤ, pos, negℤ}
 use lib.ListN.{length, getD}
 use lib.Signed.{_≤ℤ_, ltZ}
-use Rattle.std.specs.Numbers.{maxZ, minZ}
+use Rattle.std.specs.Numbers.{minZ}
 use Rattle.std.specs.Options.{mapped}
 use Rattle.std.specs.declared.option.Option.{Option}
 use Rattle.std.specs.declared.option.Option.the-variants.{Some, None}
@@ -19,6 +19,9 @@ use Rattle.rows.specs.Ranges.{holdingOk}
 use Rattle.rows.proofs.Ranges.{SoundPoint, sound-point}
 use Rattle.payoff.specs.Tables.{Tables, tablesOk, pairOk, servable, endsOf, Ends}
 use Rattle.payoff.specs.Prices.{spread, hedgePrice, floorPrice, refundable, derationPrice, derationTerm, sumTo}
+use Rattle.payoff.specs.declared.target.TargetRule.{TargetRule}
+use Rattle.payoff.specs.declared.target.TargetRule.the-variants.{Spread, PositiveSpread}
+use Rattle.payoff.specs.Targets.{targetBy}
 use Rattle.payoff.specs.Rules.{Payoff, Meaning, Served, Lawful}
 use Rattle.payoff.specs.View.{pairOf}
 use Rattle.payoff.specs.Instruments.{figuresAt, plainly, refundQuantity, refunded, refund}
@@ -109,11 +112,12 @@ plainly-by f stays t h true e =
     }
 plainly-by f stays t h false e = tt
 
-pub obligation-lawful : (t : Tables) (h : HoldingRow) → Lawful t h (plainly (λ z. z) t h)
-obligation-lawful t h = plainly-by (λ z. z) (λ z r. r) t h (servable t h) refl
+target-range : (r : TargetRule) (z : ℤ) → InSpread z → InSpread (targetBy r z)
+target-range Spread z h = h
+target-range PositiveSpread z h = (omega (arith, ints, clamps), omega (arith, ints, clamps))
 
-pub option-lawful : (t : Tables) (h : HoldingRow) → Lawful t h (plainly (λ z. maxZ z (pos 0)) t h)
-option-lawful t h = plainly-by (λ z. maxZ z (pos 0)) (λ z r. (omega (arith, ints, clamps), omega (arith, ints, clamps))) t h (servable t h) refl
+pub plainly-lawful : (r : TargetRule) (t : Tables) (h : HoldingRow) → Lawful t h (plainly (targetBy r) t h)
+plainly-lawful r t h = plainly-by (targetBy r) (target-range r) t h (servable t h) refl
 
 cond-min : (b : Bool) (q k : ℕ) → cond b (min q k) q ≤ q
 cond-min true q k = omega arith
@@ -165,7 +169,3 @@ plainly-lost f t h e = let p = lost t h e in grind arith
 pub plainly-is : (f : ℤ → ℤ) (t : Tables) (h : HoldingRow) (x : Payoff) → tablesOk t ≡ true → holdingOk h ≡ true → pairOk t h ≡ true → x ≡ figuresAt t h (f (spread (endsOf t h))) → Some x ≡ plainly f t h
 unfolding servable
 plainly-is f t h x a b p e = rw (a, b, p, e)
-
--- the floor price where the hedge price is below the target price
-pub floor-hedge : (b : Bool) (target hedge : ℤ) → ltZ (pos 0) target ≡ true → b ≡ true → ltZ hedge target ≡ true → hedge ≡ cond (ltZ (pos 0) target && b) (minZ target hedge) target
-floor-hedge b target hedge p q r = rw (p, q, r)

@@ -4,16 +4,17 @@ use Prim.Native.Nat.{ℕ, _+_, _*_, _/_, min}
 use lib.Dec.{eqb}
 use lib.IntN.{ℤ, pos}
 use lib.Signed.{ltZ}
-use Rattle.std.specs.Numbers.{maxZ}
 use Rattle.std.specs.Options.{mapped}
 use Rattle.std.specs.declared.option.Option.{Option}
 use Rattle.std.specs.declared.option.Option.the-variants.{Some, None}
 use Rattle.rows.specs.declared.plain.HoldingRow.{HoldingRow}
 use Rattle.rows.specs.declared.letters.InstrumentKind.the-variants.{Obligation, PtpOption, ObligationWithRefund, OptionWithRefund}
 use Rattle.payoff.specs.declared.letters.LetterSet.{LetterSet}
+use Rattle.payoff.specs.declared.target.TargetRule.the-variants.{Spread, PositiveSpread}
 use Rattle.payoff.specs.Tables.{Tables, servable, endsOf}
 use Rattle.payoff.specs.Prices.{spread, floorPrice, refundable, derationPrice}
 use Rattle.payoff.specs.Rules.{Payoff, Meaning}
+use Rattle.payoff.specs.Targets.{targetBy}
 use Rattle.payoff.specs.Letters.{hasLetter, noLetters, withKind}
 
 -- the four figures of a holding at a target price, with the quantity held
@@ -26,11 +27,11 @@ plainly f t h = cond (servable t h) (Some (figuresAt t h (f (spread (endsOf t h)
 
 -- pays or charges the spread
 abbrev pub obligation : Meaning
-obligation = plainly (λ z. z)
+obligation = plainly (targetBy Spread)
 
 -- pays the spread where it is positive
 abbrev pub ptpOption : Meaning
-ptpOption = plainly (λ z. maxZ z (pos 0))
+ptpOption = plainly (targetBy PositiveSpread)
 
 -- the quantity that Refund counts: of a payment no more than the part of the actual output that falls to it, beside
 -- the Real-Time quantity

@@ -12,6 +12,7 @@ mod plain;
 mod prices;
 mod refund;
 mod standard;
+mod target;
 mod tested;
 mod testing;
 

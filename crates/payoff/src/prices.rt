@@ -2,6 +2,7 @@ ghost use mathlib.Core.Path.{_≡_};
 ghost use mathlib.Core.Bool.{_||_};
 ghost use lib.IntN.{pos, negℤ};
 ghost use lib.Signed.{_≤ℤ_};
+ghost use Rattle.std.specs.Numbers.{minZ};
 ghost use Rattle.rows.specs.Plain.{plainPoint};
 ghost use Rattle.rows.specs.declared.letters.PointKind.the-variants.{ResourceNode};
 ghost use Rattle.payoff.specs.Prices.{spread, highPrice, lowPrice, hedgePrice, floorPrice, refundable, isKind};
@@ -33,6 +34,13 @@ fn low_price(point: &Point) -> i32
         PointKind::ResourceNode => point.minimum.value,
         PointKind::LoadZone | PointKind::Hub => point.price.value,
     }
+}
+
+/// The smaller of two prices.
+fn smaller(a: Price, b: Price) -> Price
+    ensures { λ r. ⌜ r .value ≡ minZ (a .value) (b .value) ⌝ }
+{
+    if b.value < a.value { b } else { a }
 }
 
 impl Pair {
@@ -71,12 +79,7 @@ impl Pair {
         if target.value <= 0 || !self.has_resource_node() {
             return target;
         }
-        let hedge = self.hedge_price();
-        if hedge.value < target.value {
-            hedge
-        } else {
-            target
-        }
+        smaller(target, self.hedge_price())
     }
 
     /// Whether Refund is for this pair: from a Resource Node to a Load Zone or a Hub.

@@ -2,7 +2,7 @@ ghost use mathlib.Core.Path.{_≡_};
 ghost use Rattle.refusals.specs.Numbers.{numberOf, layerOf};
 
 /// Which part of the settlement refuses.
-#[derive(Clone, Copy, PartialEq, Eq, Debug)]
+#[derive(Clone, Copy)]
 pub enum Layer {
     Package,
     Instrument,
@@ -11,7 +11,7 @@ pub enum Layer {
 }
 
 /// Why a call refuses: one case for each line of the table of refusals.
-#[derive(Clone, Copy, PartialEq, Eq, Debug)]
+#[derive(Clone, Copy)]
 pub enum Cause {
     PackageLength,
     Version,
@@ -37,7 +37,7 @@ pub enum Cause {
 }
 
 /// A refusal: its cause, which has a layer and a number, and the place of what was refused.
-#[derive(Clone, Copy, PartialEq, Eq, Debug)]
+#[derive(Clone, Copy)]
 pub struct Refusal {
     pub cause: Cause,
     pub place: usize,

@@ -1,4 +1,5 @@
 ghost use mathlib.Core.Path.{_≡_};
+ghost use Prim.Native.Nat.{_≤_};
 ghost use Rattle.rows.specs.Week.{blockAt};
 use crate::day::Day;
 use crate::letters::Block;
@@ -181,9 +182,19 @@ const BLOCKS: [Block; 168] = [
     N,
 ];
 
+/// The table's entry of a weekday and an hour ending.
+fn block_of_hour(weekday: u8, ending: u8) -> Block
+    requires weekday { ⌜ weekday ≤ 6 ⌝ }
+    requires first { ⌜ 1 ≤ ending ⌝ }
+    requires last { ⌜ ending ≤ 24 ⌝ }
+    ensures { λ r. ⌜ r ≡ blockAt weekday ending ⌝ }
+{
+    BLOCKS[weekday as usize * 24 + ending as usize - 1]
+}
+
 /// The block of an hour.
 pub fn block_at(day: &Day) -> Block
     ensures { λ r. ⌜ r ≡ blockAt (now (day .entry) .weekday) (now (day .entry) .ending) ⌝ }
 {
-    BLOCKS[day.weekday as usize * 24 + day.ending as usize - 1]
+    block_of_hour(day.weekday, day.ending)
 }

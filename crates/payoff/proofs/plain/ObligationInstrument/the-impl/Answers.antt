@@ -1,5 +1,6 @@
-use Rattle.payoff.proofs.Laws.{obligation-lawful}
+use Rattle.payoff.specs.declared.target.TargetRule.the-variants.{Spread}
+use Rattle.payoff.proofs.Laws.{plainly-lawful}
 use Rattle.payoff.proofs.plain.ObligationInstrument.the-impl.Needs as need
 
 pub rules-law : need.rules-law
-rules-law i t h = obligation-lawful t h
+rules-law i t h = plainly-lawful Spread t h

@@ -10,7 +10,7 @@ use Rattle.rows.specs.declared.letters.Block.the-variants.{PeakWeekday, PeakWe
 use Rattle.rows.specs.Letters.{blockLetter}
 use Rattle.rows.specs.Week.{blockAt}
 use Rattle.rows.proofs.Tables.{entry}
-use Rattle.rows.proofs.week.block_at.Needs as need
+use Rattle.rows.proofs.week.block_of_hour.Needs as need
 
 abbrev day : Block → List Block
 day x = replicate 6 OffPeak ++ (replicate 16 x ++ replicate 2 OffPeak)
@@ -43,4 +43,4 @@ rule weekday ending lt low high =
     ∙ ap (λ x. blockAt x ((weekday * 24 + ending - 1) % 24 + 1)) w ∙ ap (blockAt weekday) h
 
 pub returns : need.returns
-returns c = rule (c .args .day .now .weekday) (c .args .day .now .ending) (omega arith) (c .args .day .now .«first_ending») (c .args .day .now .«last_ending»)
+returns c = rule (c .args .weekday) (c .args .ending) (omega arith) (c .pre .first) (c .pre .last)

@@ -1,0 +1,6 @@
+/// What a plain instrument makes of the spread between its points.
+#[derive(Clone, Copy)]
+pub(crate) enum TargetRule {
+    Spread,
+    PositiveSpread,
+}
