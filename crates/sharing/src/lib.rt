@@ -25,7 +25,8 @@ pub trait Line {
         ensures { λ r. ⌜ r ≡ weight (now (self .entry)) ⌝ };
 
     fn add(&mut self, share: u64)
-        requires { ⌜ (had (now self) +ℤ pos share) <ℤ pos (2 ^ 63) ⌝ }
+        requires small { ⌜ share ≤ limit ⌝ }
+        requires room { ⌜ (had (now self) +ℤ pos share) <ℤ pos (2 ^ 63) ⌝ }
         ensures { λ _. ⌜ now (self .exit) ≡ given (now (self .entry)) share ⌝ };
 }
 
@@ -40,6 +41,7 @@ fn part(sum: u64, seen: u64, total: u64) -> u64
 /// Gives a line what falls to the lines up to it, less what falls to those before it.
 fn give<L: Line>(line: &mut L, upto: u64, before: u64)
     requires order { ⌜ before ≤ upto ⌝ }
+    requires small { ⌜ upto ≤ limit ⌝ }
     requires room { ⌜ (had (now line) +ℤ pos upto) <ℤ pos (2 ^ 63) ⌝ }
     ensures { λ _. ⌜ now (line .exit) ≡ given (now (line .entry)) (upto - before) ⌝ }
 {

@@ -29,7 +29,7 @@ give-requires g c κs =
     let r = all-step (λ x. (m .had x +ℤ pos (c .args .sum)) <ℤ pos (2 ^ 63)) (c .loop-line .lines) (c .loop-line .line-index) (c .line-item .result) (omega arith) (c .loop-line .inv .2) in
     let le = part-le (c .args .sum) (c .loop-line .seen + c .weighs-seen .result) (c .args .total) (omega (arith, c .weighs-seen .ensures, sumBy-drop-more (g .L·Line .weight) (c .loop-line .lines) (c .loop-line .line-index) (c .line-item .result) (omega arith), c .loop-line .inv .1)) in
     let mono = part-mono (c .args .sum) (c .loop-line .seen) (c .weighs-seen .result) (c .args .total) in
-    record { order = omega (arith, c .part-falls .ensures, c .loop-line .inv .3, mono); room = omega (arith, ints, r .0, c .part-falls .ensures, le) }
+    record { order = omega (arith, c .part-falls .ensures, c .loop-line .inv .3, mono); small = omega (arith, c .part-falls .ensures, le, c .pre .small); room = omega (arith, ints, r .0, c .part-falls .ensures, le) }
 
 pub loop-line-again : need.loop-line-again
 loop-line-again g c =
