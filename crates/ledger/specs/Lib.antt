@@ -1,1 +1,4 @@
 pub mod Lines
+pub mod Hour
+pub mod Figures
+pub mod Calls

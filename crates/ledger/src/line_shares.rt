@@ -5,15 +5,8 @@ ghost use Rattle.ledger.specs.Lines.{charged, refunded, paidOut};
 use crate::lines::HourLine;
 use crate::lines::LoadLine;
 use crate::lines::RollLine;
+use crate::tests::positive_cents;
 use sharing::Line;
-use units::Cents;
-
-/// A weight of money: nothing where the figure is negative.
-fn weight_of(cents: &Cents) -> u64
-    ensures { λ r. ⌜ r ≡ positive (now (cents .entry) .value) ⌝ }
-{
-    if cents.value < 0 { 0 } else { cents.value as u64 }
-}
 
 /// An hour's shortfall is shared by credit.
 pub impl Line for HourLine as HourShares {
@@ -24,7 +17,7 @@ pub impl Line for HourLine as HourShares {
     ghost given = { charged };
 
     fn weighs(&self) -> u64 {
-        weight_of(&self.credit)
+        positive_cents(&self.credit)
     }
 
     fn add(&mut self, share: u64) {
@@ -41,7 +34,7 @@ pub impl Line for RollLine as RollShares {
     ghost given = { refunded };
 
     fn weighs(&self) -> u64 {
-        weight_of(&self.short)
+        positive_cents(&self.short)
     }
 
     fn add(&mut self, share: u64) {

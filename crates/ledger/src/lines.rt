@@ -25,6 +25,13 @@ pub struct LoadLine {
     pub paid: Cents,
 }
 
+/// What a holding comes to in an hour: a negative amount pays the owner.
+#[derive(Clone, Copy)]
+pub struct Due {
+    pub owner: u16,
+    pub amount: Cents,
+}
+
 /// What a post answers: the hour's rent, credits, charges and shortfall, and the month's balance.
 #[derive(Clone, Copy)]
 pub struct HourAnswer {
