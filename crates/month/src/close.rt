@@ -75,7 +75,11 @@ impl RefundedMonth {
     }
 
     /// Pays the rest of the month out to the loads by MWh, and closes it. A refused close hands the month back.
-    pub fn close(self, roll: &[RollLine], loads: &mut [LoadLine]) -> Result<ClosedMonth, (RefundedMonth, Refusal)>
+    pub fn close(
+        self,
+        roll: &[RollLine],
+        loads: &mut [LoadLine],
+    ) -> Result<ClosedMonth, (RefundedMonth, Refusal)>
         ensures { λ r. ⌜ Cases r (λ m. CloseAccepted (ofRefunded self) (now (roll .entry)) (now (loads .entry)) (ofClosed m) (now (loads .exit))) (λ back. CloseRefused (ofRefunded self) (now (roll .entry)) (now (loads .entry)) (told (back .1)) (ofRefunded (back .0)) (now (loads .exit))) ⌝ }
     {
         if let Some(refusal) = self.close_refusal(roll, loads) {

@@ -64,12 +64,13 @@ loop-x-again c =
     let i = c .loop-x .x-index in
     let h = c .loop-x-test .taken in
     let x = getD roll i clearRoll in
-    let l = line-fits f x (sym (c .if-not-line-fits .ensures tt)) in
-    (sym (every-step (lineWithin f) roll i clearRoll true h (sym (c .if-not-line-fits .ensures tt))) ∙ c .loop-x .inv .0,
-    (omega (arith, sumBy-more (λ (y : RollLine). positive (y .credit .value)) roll i clearRoll h, c .loop-x .inv .1 .0), omega (arith, within-le (f .credits) (x .credit .value) (l .credit), c .pre .small, c .loop-x .inv .1 .1)),
-    (omega (arith, sumBy-more (λ (y : RollLine). positive (y .charge .value)) roll i clearRoll h, c .loop-x .inv .2 .0), omega (arith, within-le (f .charges) (x .charge .value) (l .charge), c .pre .small, c .loop-x .inv .2 .1)),
-    (omega (arith, sumBy-more (λ (y : RollLine). positive (y .short .value)) roll i clearRoll h, c .loop-x .inv .3 .0), omega (arith, within-le (f .shorts) (x .short .value) (l .short), c .pre .small, c .loop-x .inv .3 .1)),
-    (omega (arith, sumBy-more (λ (y : RollLine). positive (y .refund .value)) roll i clearRoll h, c .loop-x .inv .4 .0), omega (arith, within-le (f .refunds) (x .refund .value) (l .refund), c .pre .small, c .loop-x .inv .4 .1)))
+    let l = line-fits f x (sym (c .if-not-line-fits .ensures tt)) in (
+      sym (every-step (lineWithin f) roll i clearRoll true h (sym (c .if-not-line-fits .ensures tt))) ∙ c .loop-x .inv .0,
+      (omega (arith, sumBy-more (λ (y : RollLine). positive (y .credit .value)) roll i clearRoll h, c .loop-x .inv .1 .0), omega (arith, within-le (f .credits) (x .credit .value) (l .credit), c .pre .small, c .loop-x .inv .1 .1)),
+      (omega (arith, sumBy-more (λ (y : RollLine). positive (y .charge .value)) roll i clearRoll h, c .loop-x .inv .2 .0), omega (arith, within-le (f .charges) (x .charge .value) (l .charge), c .pre .small, c .loop-x .inv .2 .1)),
+      (omega (arith, sumBy-more (λ (y : RollLine). positive (y .short .value)) roll i clearRoll h, c .loop-x .inv .3 .0), omega (arith, within-le (f .shorts) (x .short .value) (l .short), c .pre .small, c .loop-x .inv .3 .1)),
+      (omega (arith, sumBy-more (λ (y : RollLine). positive (y .refund .value)) roll i clearRoll h, c .loop-x .inv .4 .0), omega (arith, within-le (f .refunds) (x .refund .value) (l .refund), c .pre .small, c .loop-x .inv .4 .1)),
+    )
 
 pub returns : need.returns
 unfolding tied
