@@ -1,0 +1,4 @@
+pub mod Sums
+pub mod Passed
+pub mod Owners
+pub mod Places
