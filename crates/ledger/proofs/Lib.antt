@@ -1,4 +1,6 @@
 pub mod Sums
 pub mod Passed
+pub mod Closable
 pub mod Owners
 pub mod Places
+pub mod Steps
