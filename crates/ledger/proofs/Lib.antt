@@ -4,3 +4,4 @@ pub mod Closable
 pub mod Owners
 pub mod Places
 pub mod Steps
+pub mod Runs
