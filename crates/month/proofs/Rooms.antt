@@ -9,15 +9,11 @@ use lib.Dec.{leb}
 use lib.IntN.{ℤ, pos, negsuc, _+ℤ_}
 use lib.ListN.{length, getD}
 use lib.Signed.{leZ, _<ℤ_}
-use Rattle.std.specs.Options.{mapped}
-use Rattle.std.specs.declared.option.Option.{Option}
-use Rattle.std.specs.declared.option.Option.the-variants.{Some, None}
 use Rattle.std.specs.shelf.Lists.{All, sumBy}
 use Rattle.std.proofs.shelf.Counted.{fill-by-all}
 use Rattle.std.proofs.shelf.Sums.{sumBy-cons}
 use Rattle.std.proofs.shelf.Tests.{and-parts, leb-true}
 use Rattle.units.specs.Parts.{positive}
-use Rattle.rows.specs.Firsts.{firstBad}
 use Rattle.ledger.specs.declared.lines.LoadLine.{LoadLine}
 use Rattle.ledger.specs.Lines.{linesOf}
 use Rattle.ledger.specs.Figures.{every, within}
@@ -29,22 +25,6 @@ within-room t s (pos n) e h =
     let l : n ≤ t = leb-true n t (and-parts (leb 0 n) (leb n t) e .1) in
     omega (arith, ints)
 within-room t s (negsuc n) e h = omega (arith, ints)
-
--- what holds of each entry that passes a test holds of a table of such entries
-pub each-of : {X : Type 0} (P : X → Type 0) (ok : X → Bool) → ((x : X) → ok x ≡ true → P x) → (xs : List X) → every ok xs ≡ true → All P xs
-each-of P ok one [] e = tt
-each-of P ok one (x ∷ xs) e =
-    let a = and-parts (ok x) (every ok xs) e in
-    (one x (a .0), each-of P ok one xs (a .1))
-
-bad-cons : (b : Bool) (o : Option ℕ) (t : Bool) → cond b (mapped (λ k. suc k) o) (Some 0) ≡ None → (o ≡ None → t ≡ true) → (b && t) ≡ true
-bad-cons true None t e h = h refl
-bad-cons true (Some k) t e h = absurd (let z : _≡_ {A = ℕ} 0 1 = cc in omega arith)
-bad-cons false o t e h = absurd (let z : _≡_ {A = ℕ} 0 1 = cc in omega arith)
-
-pub none-bad : {X : Type 0} (ok : X → Bool) (xs : List X) → firstBad ok xs ≡ None → every ok xs ≡ true
-none-bad ok [] e = refl
-none-bad ok (x ∷ xs) e = bad-cons (ok x) (firstBad ok xs) (every ok xs) e (none-bad ok xs)
 
 -- lines that stand where a rule puts them
 pub by-rule : {L : Type 0} (d : L) (xs ys : List L) (line : ℕ → L) → length ys ≡ length xs → ((i : ℕ) → i < length xs → getD ys i d ≡ line i) → ys ≡ linesOf (length xs) line

@@ -1,5 +1,7 @@
 //! A month of hours: the calls that post, refund and close it.
 mod close;
+mod dues;
+mod hour;
 mod open;
 mod refund;
 mod state;

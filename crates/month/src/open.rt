@@ -2,14 +2,12 @@ ghost use Rattle.std.specs.Results.{Cases};
 ghost use Rattle.refusals.specs.Numbers.{told};
 ghost use Rattle.ledger.specs.Calls.{OpenAccepted, OpenRefused};
 ghost use Rattle.month.specs.Months.{ofOpen};
+use crate::hour::NOTHING;
 use crate::state::OpenMonth;
 use crate::tables::fill_all;
 use ledger::RollLine;
 use refusals::Cause;
 use refusals::Refusal;
-use units::Cents;
-
-const NOTHING: Cents = Cents { value: 0 };
 
 /// Clears the roll, a line for each owner, and opens its month.
 pub fn open(roll: &mut [RollLine]) -> Result<OpenMonth, Refusal>

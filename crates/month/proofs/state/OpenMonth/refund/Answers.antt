@@ -14,7 +14,8 @@ use Rattle.ledger.specs.Figures.{lineWithin, tied}
 use Rattle.ledger.specs.Calls.{refundedLine, shortIn}
 use Rattle.month.specs.Months.{ofOpen}
 use Rattle.month.proofs.Columns.{Tied, tied-true, line-fits}
-use Rattle.month.proofs.Rooms.{within-room, each-of, by-rule}
+use Rattle.ledger.proofs.Closable.{each-of, closable}
+use Rattle.month.proofs.Rooms.{within-room, by-rule}
 use Rattle.month.proofs.Moves.{refund-figures}
 use Rattle.month.proofs.state.OpenMonth.refund.Needs as need
 

@@ -15,8 +15,9 @@ use Rattle.ledger.specs.declared.lines.LoadLine.{LoadLine}
 use Rattle.ledger.specs.Lines.{clearLoad, paidOut}
 use Rattle.ledger.specs.Calls.{loadOk, closeTest, paidLine, mwhIn}
 use Rattle.month.specs.Months.{ofRefunded}
-use Rattle.month.proofs.Rooms.{within-room, each-of, by-rule, load-le}
-use Rattle.month.proofs.Moves.{closable, close-figures}
+use Rattle.ledger.proofs.Closable.{each-of, closable}
+use Rattle.month.proofs.Rooms.{within-room, by-rule, load-le}
+use Rattle.month.proofs.Moves.{close-figures}
 use Rattle.month.proofs.state.RefundedMonth.close.Needs as need
 
 pub share-requires : need.share-requires
