@@ -102,7 +102,7 @@ module _ {n : ℕ} {l : Ledger} {f : Figures} {roll : List RollLine} (k : Kept n
       }
 
 -- refund
-same-share : (s s′ v v′ : ℕ) (w w′ : ℕ → ℕ) (o : ℕ) → s ≡ s′ → v ≡ v′ → upTo w o ≡ upTo w′ o → upTo w (suc o) ≡ upTo w′ (suc o) → shareOf s v w o ≡ shareOf s′ v′ w′ o
+pub same-share : (s s′ v v′ : ℕ) (w w′ : ℕ → ℕ) (o : ℕ) → s ≡ s′ → v ≡ v′ → upTo w o ≡ upTo w′ o → upTo w (suc o) ≡ upTo w′ (suc o) → shareOf s v w o ≡ shareOf s′ v′ w′ o
 same-share s s′ v v′ w w′ o e g x y = cc
 
 abbrev shortFigure : RollLine → ℕ

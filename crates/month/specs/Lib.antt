@@ -1,2 +1,3 @@
 pub mod Months
 pub mod Hours
+pub mod Sums

@@ -4,6 +4,8 @@ mod dues;
 mod hour;
 mod open;
 mod refund;
+mod sheet;
 mod state;
+mod sums;
 mod tables;
 mod totals;
