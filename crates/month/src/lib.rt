@@ -1,4 +1,5 @@
 //! A month of hours: the calls that post, refund and close it.
+mod admit;
 mod close;
 mod dues;
 mod hour;
