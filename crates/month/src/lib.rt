@@ -4,6 +4,7 @@ mod close;
 mod dues;
 mod hour;
 mod open;
+mod post;
 mod refund;
 mod sheet;
 mod state;
