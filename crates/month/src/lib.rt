@@ -1,9 +1,10 @@
-//! A month of hours: the calls that post, refund and close it.
+//! A month of hours, from open to close: the calls, and what every run of them keeps.
 mod admit;
 mod close;
+mod closed;
 mod dues;
 mod hour;
-mod open;
+mod opening;
 mod post;
 mod refund;
 mod sheet;
@@ -11,3 +12,8 @@ mod state;
 mod sums;
 mod tables;
 mod totals;
+
+pub use opening::open;
+pub use state::ClosedMonth;
+pub use state::OpenMonth;
+pub use state::RefundedMonth;
