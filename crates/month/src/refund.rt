@@ -2,7 +2,7 @@ ghost use mathlib.Core.Path.{_≡_};
 ghost use Rattle.std.specs.Results.{Cases};
 ghost use Rattle.refusals.specs.Numbers.{told};
 ghost use Rattle.ledger.specs.Figures.{tied};
-ghost use Rattle.ledger.specs.Calls.{RefundAccepted, RefundRefused};
+ghost use Rattle.ledger.specs.Calls.{refundSum, RefundAccepted, RefundRefused};
 ghost use Rattle.month.specs.Months.{ofOpen, ofRefunded};
 use crate::state::OpenMonth;
 use crate::state::RefundedMonth;
@@ -28,6 +28,13 @@ impl OpenMonth {
         ties(&totals, roll)
     }
 
+    /// What is refunded in all: the smaller of balance and total shortfall.
+    fn refund_sum(&self) -> u64
+        ensures { λ r. ⌜ r ≡ refundSum (ofOpen (now (self .entry))) ⌝ }
+    {
+        self.balance.min(self.shorts)
+    }
+
     /// Refunds the shortfall charges as far as the balance goes: the smaller of balance and total shortfall, shared
     /// over the roll lines by shortfall charge. A refused refund hands the month back.
     pub fn refund(self, roll: &mut [RollLine]) -> Result<RefundedMonth, (OpenMonth, Refusal)>
@@ -40,7 +47,7 @@ impl OpenMonth {
             };
             return Err((self, refusal));
         }
-        let refunds = self.balance.min(self.shorts);
+        let refunds = self.refund_sum();
         sharing::share(roll, refunds, self.shorts);
         Ok(RefundedMonth {
             owners: self.owners,

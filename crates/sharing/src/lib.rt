@@ -38,14 +38,18 @@ fn part(sum: u64, seen: u64, total: u64) -> u64
     if total == 0 { 0 } else { sum * seen / total }
 }
 
-/// Gives a line what falls to the lines up to it, less what falls to those before it.
-fn give<L: Line>(line: &mut L, upto: u64, before: u64)
-    requires order { ⌜ before ≤ upto ⌝ }
-    requires small { ⌜ upto ≤ limit ⌝ }
-    requires room { ⌜ (had (now line) +ℤ pos upto) <ℤ pos (2 ^ 63) ⌝ }
-    ensures { λ _. ⌜ now (line .exit) ≡ given (now (line .entry)) (upto - before) ⌝ }
+/// Gives a line what falls to the lines up to it, less what falls to those before it. Answers what falls up to it.
+fn give<L: Line>(line: &mut L, sum: u64, seen: u64, total: u64, before: u64) -> u64
+    requires small { ⌜ sum ≤ limit ⌝ ∗ ⌜ seen ≤ limit ⌝ }
+    requires order { ⌜ before ≤ sum * seen / total ⌝ }
+    requires whole { ⌜ sum * seen / total ≤ sum ⌝ }
+    requires room { ⌜ (had (now line) +ℤ pos sum) <ℤ pos (2 ^ 63) ⌝ }
+    ensures upto { λ r. ⌜ r ≡ sum * seen / total ⌝ }
+    ensures given { λ _. ⌜ now (line .exit) ≡ given (now (line .entry)) (sum * seen / total - before) ⌝ }
 {
+    let upto = part(sum, seen, total);
     line.add(upto - before);
+    upto
 }
 
 /// Shares a sum over the lines by weight, and adds each line's share to what it has had.
@@ -65,8 +69,6 @@ pub fn share<L: Line>(lines: &mut [L], sum: u64, total: u64)
     let mut done: u64 = 0;
     for line in lines.iter_mut() {
         seen += line.weighs();
-        let falls = part(sum, seen, total);
-        give(line, falls, done);
-        done = falls;
+        done = give(line, sum, seen, total, done);
     }
 }

@@ -19,17 +19,17 @@ pub add-seen : need.add-seen
 add-seen g c =
     omega (arith, c .weighs-seen .ensures, sumBy-drop-more (g .L·Line .weight) (c .loop-line .lines) (c .loop-line .line-index) (c .line-item .result) (omega arith), c .loop-line .inv .1, c .pre .small)
 
-pub part-falls-requires : need.part-falls-requires
-part-falls-requires g c κs =
-    (omega (arith, c .pre .small), omega (arith, c .weighs-seen .ensures, sumBy-drop-more (g .L·Line .weight) (c .loop-line .lines) (c .loop-line .line-index) (c .line-item .result) (omega arith), c .loop-line .inv .1, c .pre .small))
-
-pub give-requires : need.give-requires
-give-requires g c κs =
+pub give-done-requires : need.give-done-requires
+give-done-requires g c κs =
     let m = g .L·Line in
     let r = all-step (λ x. (m .had x +ℤ pos (c .args .sum)) <ℤ pos (2 ^ 63)) (c .loop-line .lines) (c .loop-line .line-index) (c .line-item .result) (omega arith) (c .loop-line .inv .2) in
-    let le = part-le (c .args .sum) (c .loop-line .seen + c .weighs-seen .result) (c .args .total) (omega (arith, c .weighs-seen .ensures, sumBy-drop-more (g .L·Line .weight) (c .loop-line .lines) (c .loop-line .line-index) (c .line-item .result) (omega arith), c .loop-line .inv .1)) in
-    let mono = part-mono (c .args .sum) (c .loop-line .seen) (c .weighs-seen .result) (c .args .total) in
-    record { order = omega (arith, c .part-falls .ensures, c .loop-line .inv .3, mono); small = omega (arith, c .part-falls .ensures, le, c .pre .small); room = omega (arith, ints, r .0, c .part-falls .ensures, le) }
+    let step = sumBy-drop-more (m .weight) (c .loop-line .lines) (c .loop-line .line-index) (c .line-item .result) (omega arith) in
+    record {
+      small = (c .pre .small .0, omega (arith, c .weighs-seen .ensures, step, c .loop-line .inv .1, c .pre .small));
+      order = omega (arith, c .loop-line .inv .3, part-mono (c .args .sum) (c .loop-line .seen) (c .weighs-seen .result) (c .args .total));
+      whole = part-le (c .args .sum) (c .loop-line .seen + c .weighs-seen .result) (c .args .total) (omega (arith, c .weighs-seen .ensures, step, c .loop-line .inv .1));
+      room = r .0;
+    }
 
 pub loop-line-again : need.loop-line-again
 loop-line-again g c =
@@ -37,19 +37,19 @@ loop-line-again g c =
     let xs = c .loop-line .lines in
     let i = c .loop-line .line-index in
     let d = c .line-item .result in
-    let y = c .give .last .line in
+    let y = c .give-done .last .line in
     let s = c .args .sum in
     let v = c .args .total in
     let b = c .loop-line .seen in
     let h : i < length xs = omega arith in
     let w = c .weighs-seen .ensures in
     let e : y ≡ m .given (getD xs i d) (shareAfter s v b (m .weight (getD xs i d))) =
-    c .give .ensures ∙ ap (m .given (getD xs i d)) (rw (c .part-falls .ensures, c .loop-line .inv .3, w) refl) in
+    c .give-done .ensures .given ∙ ap (m .given (getD xs i d)) (rw (c .loop-line .inv .3, w) refl) in
     let r = all-step (λ x. (m .had x +ℤ pos s) <ℤ pos (2 ^ 63)) xs i d h (c .loop-line .inv .2) in (
       ap (λ k. take (i + 1) (set xs i y) ++ sharedFrom (m .weight) (m .given) s v (b + k) (drop (i + 1) (set xs i y))) w ∙ shared-more (m .weight) (m .given) s v b xs i d y h e ∙ c .loop-line .inv .0,
       rw (drop-after xs i y) (omega (arith, w, sumBy-drop-more (m .weight) xs i d h, c .loop-line .inv .1)),
       (let F : _ = All (λ x. (m .had x +ℤ pos s) <ℤ pos (2 ^ 63)) in subst F (sym (drop-after xs i y)) (r .1)),
-      c .part-falls .ensures,
+      c .give-done .ensures .upto,
     )
 
 pub returns : need.returns

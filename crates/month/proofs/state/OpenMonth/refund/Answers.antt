@@ -24,7 +24,7 @@ share-requires c κs =
     let f = ofOpen (c .args .self) in
     let roll = c .args .roll .now in
     let t = tied-true f roll (sym (c .if-not-holds .ensures tt)) in
-    let s = c .min-refunds .result in
+    let s = c .refund-sum-refunds .result in
     record {
       small = (omega arith, omega arith);
       zero = λ z. omega arith;
@@ -36,9 +36,9 @@ pub returns : need.returns
 returns c =
     let f = ofOpen (c .args .self) in
     let roll = c .args .roll .now in
-    let k : c .min-refunds .result ≡ _ = c .min-refunds .ensures in
+    let k : c .refund-sum-refunds .result ≡ _ = c .refund-sum-refunds .ensures in
     record {
       tests = ap (λ b. cond b None (Some (refusedAt 22 0))) (sym (c .if-not-holds .ensures tt));
-      month-after = refund-figures f (c .min-refunds .result) k refl;
+      month-after = refund-figures f (c .refund-sum-refunds .result) k refl;
       roll-after = by-rule clearRoll roll (c .share .last .lines) (refundedLine f roll) (c .share .ensures .kept) (λ i h. c .share .ensures .shared clearRoll i h ∙ ap (λ (n : ℕ). refunded (getD roll i clearRoll) (shareOf n (f .shorts) (shortIn roll) i)) k);
     }
