@@ -56,7 +56,7 @@ step-good n l (closes-not h) g =
     (record { cell-stays = e; loads-stay = h .loads-after }, moved n l _ _ e g)
 
 -- a run of one month
-abbrev Chain : Cell → List Move → Cell → Type 0
+abbrev pub Chain : Cell → List Move → Cell → Type 0
 Chain a [] b = b ≡ a
 Chain a (m ∷ ms) b = (m .before ≡ a) × Step (m .before) (m .event) (m .after) × Chain (m .after) ms b
 
@@ -120,3 +120,35 @@ stands n f roll e c w w″ i es start r =
       balanced = good-balanced n l (w″ i) (g .1);
       made-good = good-whole n l (w″ i) (g .1);
     }
+
+-- one month by itself: a world in which the others rest
+abbrev world : Cell → Cell → World
+world rest a zero = a
+world rest a (suc j) = rest
+
+abbrev tagged : List Move → List (ℕ × Move)
+tagged [] = []
+tagged (m ∷ ms) = (0, m) ∷ tagged ms
+
+others : (rest a b : Cell) (j : ℕ) → (j ≡ 0 → ⊥) → world rest b j ≡ world rest a j
+others rest a b zero d = absurd (d refl)
+others rest a b (suc j) d = refl
+
+world-same : (rest a b : Cell) → b ≡ a → (j : ℕ) → world rest b j ≡ world rest a j
+world-same rest a b e zero = e
+world-same rest a b e (suc j) = refl
+
+runs-of : (rest a : Cell) (ms : List Move) (b : Cell) → Chain a ms b → Runs (world rest a) (tagged ms) (world rest b)
+runs-of rest a [] b c = world-same rest a b c
+runs-of rest a (m ∷ ms) b c = (world rest (m .after), c .0, c .1, refl, others rest a (m .after), runs-of rest (m .after) ms b (c .2))
+
+tagged-moves : (ms : List Move) → movesOf 0 (tagged ms) ≡ ms
+tagged-moves [] = refl
+tagged-moves (m ∷ ms) = ap (λ l. m ∷ l) (tagged-moves ms)
+
+-- what holds of a run of one month alone
+pub holds-alone : (n : ℕ) (f : Figures) (roll : List RollLine) → Stands n f roll → (ms : List Move) (b : Cell) → Chain (cell (isOpen f) roll) ms b → Holds n ms b
+holds-alone n f roll st ms b c =
+    let a = cell (isOpen f) roll in
+    let F : List Move → Type 0 = λ l. Holds n l b in
+    subst F (tagged-moves ms) (st (world a a) (world a b) 0 (tagged ms) refl (runs-of a a ms b c))
