@@ -1,0 +1,6 @@
+use Rattle.ledger.specs.Figures.{tied}
+use Rattle.month.proofs.state.OpenMonth.holds.Needs as need
+
+pub returns : need.returns
+unfolding tied
+returns c = c .ties .ensures
