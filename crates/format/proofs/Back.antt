@@ -146,7 +146,7 @@ first-back h k g o lt =
     let e : decodeDay 0 (encodeDay (h .day)) ≡ Ok (h .day) = taken 0 12 dayOk dayAt (encodeDay (h .day)) (h .day) refl (day-back (h .day) o) o in
     ap (onFirst k) fr ∙ ap (λ r. after r (λ d. run k 1 (hour d [] [] []) (recordsOf 67 encodeConstraint (h .constraints) ++ (recordsOf 80 encodePlaced (h .points) ++ recordsOf 72 encodeHolding (h .holdings))))) e ∙ rest-back h k g lt
 
-reads-good : (bs : List ℕ) → 5 ≤ length bs → length bs ≤ 44340 → num4At bs 0 ≡ length bs - 4 → getD bs 4 0 ≡ 1 → reads bs ≡ onFirst (length bs) (frameOf (drop 5 bs))
+pub reads-good : (bs : List ℕ) → 5 ≤ length bs → length bs ≤ 44340 → num4At bs 0 ≡ length bs - 4 → getD bs 4 0 ≡ 1 → reads bs ≡ onFirst (length bs) (frameOf (drop 5 bs))
 unfolding reads
 reads-good bs a b e v =
     let p : leb 5 (length bs) ≡ true = le-leb 5 (length bs) a in

@@ -189,7 +189,7 @@ run-canon zero p t h bs b g e = refused _ h e
 run-canon (suc k) p t h bs b g e =
     on-frame p t h bs (λ u rest. run k (p + 1) u rest) b g (λ u rest br gu q. run-canon k (p + 1) u h rest br gu q) (frameOf bs) refl e
 
-new-good : (d : DayRow) → Good (hour d [] [] [])
+pub new-good : (d : DayRow) → Good (hour d [] [] [])
 new-good d = record { constraints = tt; points = tt; holdings = tt; few-constraints = omega arith; few-points = omega arith; few-holdings = omega arith }
 
 body-new : (d : DayRow) → body (hour d [] [] []) ≡ framed 68 (encodeDay d)
