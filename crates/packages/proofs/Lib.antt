@@ -1,2 +1,4 @@
 pub mod Counted
 pub mod First
+pub mod Nexts
+pub mod Rowing

@@ -1,7 +1,10 @@
 //! Reads a package into the caller's tables.
 mod counts;
 mod filled;
+mod filling;
+mod reading;
 mod rest;
+mod row;
 mod testing;
 
 pub use filled::Filled;
