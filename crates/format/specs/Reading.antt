@@ -3,12 +3,14 @@ use mathlib.Core.Bool.{Bool, true, cond, _&&_}
 use mathlib.Core.List.{List, [], _∷_, _++_}
 use Prim.Native.Nat.{ℕ, zero, suc, _+_, _-_}
 use lib.Dec.{leb, ltb, eqb}
+use lib.IntN.{ℤ}
 use lib.ListN.{length, getD, drop}
 use Rattle.std.specs.declared.result.Result.{Result}
 use Rattle.std.specs.declared.result.Result.the-variants.{Ok, Err}
 use Rattle.refusals.specs.Numbers.{Told, refusedAt}
 use Rattle.rows.specs.declared.plain.ConstraintRow.{ConstraintRow}
 use Rattle.rows.specs.declared.plain.HoldingRow.{HoldingRow}
+use Rattle.rows.specs.declared.plain.PointRow.{PointRow}
 use Rattle.rows.specs.Ranges.{between}
 use Rattle.codec.specs.Bytes.{num4At}
 use Rattle.codec.specs.Records.{Placed, decodeDay, decodeConstraint, decodePoint, decodeHolding, answered}
@@ -79,6 +81,10 @@ abbrev pub roomed : ℕ → ℕ → ℕ → ℕ → Result Tables Told → Resul
 roomed cs ps fs hs (Ok t) =
     cond (leb (length (t .constraints)) cs && (leb (length (t .points)) ps && (leb (length (t .factors)) fs && leb (length (t .holdings)) hs))) (Ok t) (Err (refusedAt 7 0))
 roomed cs ps fs hs (Err e) = Err e
+
+-- all the tests, for a caller with these tables
+abbrev pub readsInto : List ℕ → List ConstraintRow → List PointRow → List ℤ → List HoldingRow → Result Tables Told
+readsInto bs cs ps fs hs = roomed (length cs) (length ps) (length fs) (length hs) (readsTables bs)
 
 -- a table afterwards: rows at its front and what lay past them, and on refusal what it held
 abbrev pub laid : {X : Type 0} → Result Tables Told → (Tables → List X) → List X → List X

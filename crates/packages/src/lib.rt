@@ -8,3 +8,4 @@ mod row;
 mod testing;
 
 pub use filled::Filled;
+pub use reading::read_package;
