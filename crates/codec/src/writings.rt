@@ -1,8 +1,9 @@
 //! The fields of a record as bytes.
 ghost use mathlib.Core.Path.{_≡_};
+ghost use Prim.Native.Nat.{_^_, _<_};
 ghost use Rattle.rows.specs.Plain.{plainDay};
-ghost use Rattle.codec.specs.Bytes.{twos2};
-ghost use Rattle.codec.specs.Records.{encodeDay, encodeConstraint, encodePoint, encodeHolding};
+ghost use Rattle.codec.specs.Bytes.{be2, twos2};
+ghost use Rattle.codec.specs.Records.{encodeDay, encodeConstraint, encodePoint, encodeHolding, HoldingFits};
 use rows::ConstraintRow;
 use rows::Day;
 use rows::HoldingRow;
@@ -44,13 +45,22 @@ pub fn factor_bytes(factor: i16) -> [u8; 2]
     factor.to_be_bytes()
 }
 
+/// A figure of 16 bits, which its type alone holds in range.
+fn two_bytes(figure: u16) -> [u8; 2]
+    ensures value { λ r. ⌜ r ≡ be2 figure ⌝ }
+    ensures fits { λ _. ⌜ figure < 2 ^ 16 ⌝ }
+{
+    figure.to_be_bytes()
+}
+
 /// The fields of an H record.
 pub fn holding_bytes(row: &HoldingRow) -> [u8; 20]
-    ensures { λ r. ⌜ r ≡ encodeHolding (now (row .entry)) ⌝ }
+    ensures value { λ r. ⌜ r ≡ encodeHolding (now (row .entry)) ⌝ }
+    ensures fits { λ _. ⌜ HoldingFits (now (row .entry)) ⌝ }
 {
-    let [a, b] = row.owner.to_be_bytes();
-    let [c, d] = row.source.to_be_bytes();
-    let [e, f] = row.sink.to_be_bytes();
+    let [a, b] = two_bytes(row.owner);
+    let [c, d] = two_bytes(row.source);
+    let [e, f] = two_bytes(row.sink);
     let [g, h, i, j] = row.quantity.to_be_bytes();
     let [k, l, m, n] = row.actual.to_be_bytes();
     let [o, p, q, s] = row.real_time.to_be_bytes();
