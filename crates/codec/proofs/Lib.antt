@@ -1,0 +1,4 @@
+pub mod Trips
+pub mod Spelled
+pub mod Pairs
+pub mod Both

@@ -1,0 +1,4 @@
+pub mod Taking
+pub mod Canon
+pub mod Back
+pub mod Ways

@@ -1,0 +1,3 @@
+pub mod Hours
+pub mod Reading
+pub mod Writing

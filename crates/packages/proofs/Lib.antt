@@ -1,0 +1,5 @@
+pub mod Counted
+pub mod First
+pub mod Nexts
+pub mod Rowing
+pub mod Rooms

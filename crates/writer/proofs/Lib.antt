@@ -1,0 +1,4 @@
+pub mod Runs
+pub mod Points
+pub mod Whole
+pub mod Verdicts
