@@ -23,8 +23,3 @@ refund-figures f k e z =
     let a : k ≡ f .refunds + refundSum f = omega arith in
     let b : f .balance - k ≡ f .balance - refundSum f = ap (λ n. f .balance - n) e in
     cc
-
-pub close-figures : (f : Figures) (k : ℕ) → k ≡ f .balance → f .payments ≡ 0 → record { owners = f .owners; hours = f .hours; last = f .last; rents = f .rents; credits = f .credits; charges = f .charges; shorts = f .shorts; refunds = f .refunds; balance = 0; payments = k } ≡ afterClose f
-close-figures f k e z =
-    let a : k ≡ f .payments + f .balance = omega arith in
-    cc

@@ -3,7 +3,7 @@ ghost use Rattle.std.specs.Options.{mapped};
 ghost use Rattle.std.specs.Results.{Cases};
 ghost use Rattle.refusals.specs.Numbers.{told};
 ghost use Rattle.ledger.specs.Figures.{tied};
-ghost use Rattle.ledger.specs.Calls.{loadsTest, closeTest, CloseAccepted, CloseRefused};
+ghost use Rattle.ledger.specs.Calls.{loadsTest, closeTest, afterClose, CloseAccepted, CloseRefused};
 ghost use Rattle.month.specs.Months.{ofRefunded, ofClosed};
 use crate::state::ClosedMonth;
 use crate::state::RefundedMonth;
@@ -74,6 +74,23 @@ impl RefundedMonth {
         None
     }
 
+    /// The month once its rest has gone to the loads.
+    fn paid_out(&self) -> ClosedMonth
+        ensures { λ r. ⌜ ofClosed r ≡ afterClose (ofRefunded (now (self .entry))) ⌝ }
+    {
+        ClosedMonth {
+            owners: self.owners,
+            hours: self.hours,
+            last: self.last,
+            rents: self.rents,
+            credits: self.credits,
+            charges: self.charges,
+            shorts: self.shorts,
+            refunds: self.refunds,
+            payments: self.balance,
+        }
+    }
+
     /// Pays the rest of the month out to the loads by MWh, and closes it. A refused close hands the month back.
     pub fn close(
         self,
@@ -87,16 +104,6 @@ impl RefundedMonth {
         }
         let total = load_total(loads);
         sharing::share(loads, self.balance, total);
-        Ok(ClosedMonth {
-            owners: self.owners,
-            hours: self.hours,
-            last: self.last,
-            rents: self.rents,
-            credits: self.credits,
-            charges: self.charges,
-            shorts: self.shorts,
-            refunds: self.refunds,
-            payments: self.balance,
-        })
+        Ok(self.paid_out())
     }
 }

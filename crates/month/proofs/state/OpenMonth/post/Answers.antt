@@ -15,17 +15,17 @@ use Rattle.month.proofs.state.OpenMonth.post.Needs as need
 
 pub part-write-hour-end : need.part-write-hour-end
 part-write-hour-end g c =
-    let few = ok _ _ _ _ _ (c .in-Continue-sums .ensures tt) .few in
-    omega (arith, few, c .admit .kept .dues)
+    let few = ok _ _ _ _ _ (c .in-Ok .ensures tt) .few in
+    omega (arith, few, c .admit-admitted .kept .dues)
 
 pub write-hour-requires : need.write-hour-requires
 write-hour-requires g c κs =
     let f = ofOpen (c .args .self .now) in
     let roll = c .args .roll .now in
     let p = postingOf (g .I·Instrument .means (c .args .instrument .now)) (plainDay (c .args .day .now)) (tables (c .args .constraints .now) (c .args .points .now) (c .args .factors .now)) (c .args .holdings .now) (c .args .sheet .now) (c .args .amounts .now) in
-    let s = c .in-Continue-sums .sums in
-    let table = c .admit .last .dues in
-    let a = c .in-Continue-sums .ensures tt in
+    let s = c .in-Ok .sums in
+    let table = c .admit-admitted .last .dues in
+    let a = c .in-Ok .ensures tt in
     record {
       owners = owners-ready f roll p s table a;
       lines = (ok f roll p s table a .lines, amounts-ready f roll p s table a);
@@ -39,9 +39,9 @@ enter-requires g c κs =
     let f = ofOpen (c .args .self .now) in
     let roll = c .args .roll .now in
     let p = postingOf (g .I·Instrument .means (c .args .instrument .now)) (plainDay (c .args .day .now)) (tables (c .args .constraints .now) (c .args .points .now) (c .args .factors .now)) (c .args .holdings .now) (c .args .sheet .now) (c .args .amounts .now) in
-    let s = c .in-Continue-sums .sums in
-    let table = c .admit .last .dues in
-    let a = c .in-Continue-sums .ensures tt in
+    let s = c .in-Ok .sums in
+    let table = c .admit-admitted .last .dues in
+    let a = c .in-Ok .ensures tt in
     let rent = natAbs (toZ w64 (ofZ w64 (c .args .day .now .rent .value))) in
     let r : rent ≡ natAbs (c .args .day .now .rent .value) = omega (arith, ints) in
     record {
@@ -56,9 +56,9 @@ answer-requires g c κs =
     let f = ofOpen (c .args .self .now) in
     let roll = c .args .roll .now in
     let p = postingOf (g .I·Instrument .means (c .args .instrument .now)) (plainDay (c .args .day .now)) (tables (c .args .constraints .now) (c .args .points .now) (c .args .factors .now)) (c .args .holdings .now) (c .args .sheet .now) (c .args .amounts .now) in
-    let s = c .in-Continue-sums .sums in
-    let table = c .admit .last .dues in
-    let a = c .in-Continue-sums .ensures tt in
+    let s = c .in-Ok .sums in
+    let table = c .admit-admitted .last .dues in
+    let a = c .in-Ok .ensures tt in
     let m = month-ready f roll p s table a in
     (limits-ready f roll p s table a .0, (omega (arith, a .sums .charges-is, ok f roll p s table a .charge), (omega (arith, m .0), omega (arith, m .1, ap (λ h. h .balance) (c .enter .ensures)))))
 
@@ -67,9 +67,9 @@ returns g c =
     let f = ofOpen (c .args .self .now) in
     let roll = c .args .roll .now in
     let p = postingOf (g .I·Instrument .means (c .args .instrument .now)) (plainDay (c .args .day .now)) (tables (c .args .constraints .now) (c .args .points .now) (c .args .factors .now)) (c .args .holdings .now) (c .args .sheet .now) (c .args .amounts .now) in
-    let s = c .in-Continue-sums .sums in
-    let table = c .admit .last .dues in
-    let a = c .in-Continue-sums .ensures tt in
+    let s = c .in-Ok .sums in
+    let table = c .admit-admitted .last .dues in
+    let a = c .in-Ok .ensures tt in
     let rent = natAbs (toZ w64 (ofZ w64 (c .args .day .now .rent .value))) in
     let r : rent ≡ natAbs (c .args .day .now .rent .value) = omega (arith, ints) in
     record {

@@ -17,7 +17,6 @@ use Rattle.ledger.specs.Calls.{loadOk, closeTest, paidLine, mwhIn}
 use Rattle.month.specs.Months.{ofRefunded}
 use Rattle.ledger.proofs.Closable.{each-of, closable}
 use Rattle.month.proofs.Rooms.{within-room, by-rule, load-le}
-use Rattle.month.proofs.Moves.{close-figures}
 use Rattle.month.proofs.state.RefundedMonth.close.Needs as need
 
 pub share-requires : need.share-requires
@@ -39,6 +38,6 @@ returns c =
     let loads = c .args .loads .now in
     record {
       tests = sym (c .in-rest .ensures tt);
-      month-after = close-figures f (c .args .self .balance) refl refl;
+      month-after = c .paid-out .ensures;
       loads-after = by-rule clearLoad loads (c .share .last .lines) (paidLine (f .balance) loads) (c .share .ensures .kept) (λ i h. c .share .ensures .shared clearLoad i h ∙ ap (λ (n : ℕ). paidOut (getD loads i clearLoad) (shareOf (f .balance) n (mwhIn loads) i)) (c .load-total-total .ensures));
     }
