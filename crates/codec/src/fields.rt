@@ -50,7 +50,7 @@ fn i32_at(bytes: &[u8], i: usize) -> i32
 }
 
 /// The day row of the 12 bytes of a D record.
-pub fn day_at(fields: &[u8]) -> Option<DayRow>
+pub(crate) fn day_at(fields: &[u8]) -> Option<DayRow>
     ensures { λ r. ⌜ r ≡ sized 12 dayAt (now (fields .entry)) ⌝ }
 {
     if fields.len() != 12 {

@@ -6,7 +6,6 @@ mod writings;
 
 pub use factors::fill_factors;
 pub use fields::constraint_at;
-pub use fields::day_at;
 pub use fields::holding_at;
 pub use fields::point_at;
 pub use readings::read_constraint;

@@ -1,3 +1,4 @@
+ghost use mathlib.Core.Path.{_≡_};
 ghost use Prim.Native.Nat.{_+_, _^_, _<_};
 ghost use lib.ListN.{length};
 
@@ -8,4 +9,13 @@ pub struct Reader<'a> {
     pub(crate) rest: &'a [u8],
     pub(crate) place: usize,
     ghost short: { length (rest .now) + place < 2 ^ 64 },
+}
+
+impl Reader<'_> {
+    /// The number of the record that comes next.
+    pub fn place(&self) -> usize
+        ensures { λ r. ⌜ r ≡ now (self .entry) .place ⌝ }
+    {
+        self.place
+    }
 }

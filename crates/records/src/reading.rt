@@ -49,13 +49,6 @@ impl<'a> Reader<'a> {
         Reader { rest, place: 0 }
     }
 
-    /// The number of the record that comes next.
-    pub fn place(&self) -> usize
-        ensures { λ r. ⌜ r ≡ now (self .entry) .place ⌝ }
-    {
-        self.place
-    }
-
     /// The next record, nothing after the last one, or refusal 3 where it is empty or past the end; the reader then
     /// stays.
     pub fn next(&mut self) -> Result<Option<Entry<'a>>, Refusal>
