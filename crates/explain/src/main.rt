@@ -1,12 +1,12 @@
 //! Reads a package from standard input and says why each of its holdings is paid what it is.
 use hour_text::explain_package;
-use payoff::standard_instrument;
-use std::error::AnyError;
-use std::io::Read;
 use payoff::ChoiceInstrument;
 use payoff::ObligationInstrument;
 use payoff::PtpOptionInstrument;
 use payoff::RefundInstrument;
+use payoff::standard_instrument;
+use std::error::AnyError;
+use std::io::Read;
 
 /// One byte more than the largest package: what is longer is refused without reading it all.
 const MOST_BYTES: u64 = 44_341;

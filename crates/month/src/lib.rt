@@ -11,9 +11,11 @@ mod sheet;
 mod state;
 mod sums;
 mod tables;
+mod told;
 mod totals;
 
 pub use opening::open;
 pub use state::ClosedMonth;
 pub use state::OpenMonth;
 pub use state::RefundedMonth;
+pub use told::ClosedFigures;

@@ -209,13 +209,14 @@ fn try_close(
 ) -> io::Result<Option<RefundedMonth>> {
     match m.close(roll, loads) {
         Ok(m) => {
-            let hours = m.hours();
-            let rents = m.rents();
-            let credits = m.credits();
-            let charges = m.charges();
-            let short = m.shortfall_charges();
-            let refunds = m.refunds();
-            let payments = m.load_payments();
+            let told = m.figures();
+            let hours = told.hours;
+            let rents = told.rents;
+            let credits = told.credits;
+            let charges = told.charges;
+            let short = told.shortfall_charges;
+            let refunds = told.refunds;
+            let payments = told.load_payments;
             println!(
                 rt,
                 "closed: hours {hours} rents {rents} credits {credits} charges {charges} short {short} refunds {refunds} payments {payments}"
