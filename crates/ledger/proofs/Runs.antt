@@ -1,22 +1,18 @@
 -- Every run keeps the ledger.
 use mathlib.Core.Path.{_≡_, refl, sym, ap, subst, _∙_}
-use mathlib.Core.Bool.{Bool, true, false, cond}
+use mathlib.Core.Bool.{Bool, cond}
 use mathlib.Core.List.{List, [], _∷_}
-use mathlib.Core.Logic.{_⊎_, inl, inr, ⊎-elim}
-use Prim.Native.Nat.{ℕ, zero, suc, _+_, _-_, _<_, _≤_}
+use mathlib.Core.Logic.{⊎-elim}
+use Prim.Native.Nat.{ℕ, zero, suc, _<_}
 use native.Mathlib.Omega.{arith}
-use lib.Dec.{eqb}
-use lib.ListN.{length, getD, replicate}
+use lib.ListN.{replicate}
 use Rattle.std.proofs.shelf.Tests.{eq-eqb, ne-eqb, cases-eq}
-use Rattle.sharing.specs.Shares.{upTo, shareOf}
 use Rattle.ledger.specs.declared.lines.RollLine.{RollLine}
-use Rattle.ledger.specs.declared.lines.LoadLine.{LoadLine}
 use Rattle.ledger.specs.Lines.{linesOf, clearRoll}
 use Rattle.ledger.specs.Figures.{Figures, started}
-use Rattle.ledger.specs.Calls.{loadTotal, mwhIn, RefundAccepted, RefundRefused, CloseAccepted, CloseRefused}
-use Rattle.ledger.specs.Posting.{Posting, PostAccepted, PostRefused}
-use Rattle.ledger.specs.Ledger.{Event, posted, post-refused, refunded, refund-refused, closed, close-refused, Ledger, blank, withHour, withRefund, withLoads, noted, ledgerFrom, figuresOf, ownerLine, loadLine}
-use Rattle.ledger.specs.Runs.{State, isOpen, isRefunded, isClosed, figures, Cell, cell, monthOf, rollOf, Step, posts, posts-not, refunds, refunds-not, closes, closes-not, Move, World, Runs, movesOf, eventsOf, EventHolds, EachHolds, Balanced, Holds, Stands}
+use Rattle.ledger.specs.Calls.{loadTotal, mwhIn}
+use Rattle.ledger.specs.Ledger.{Event, Ledger, blank, noted, ledgerFrom, figuresOf, ownerLine}
+use Rattle.ledger.specs.Runs.{isOpen, isRefunded, isClosed, figures, Cell, cell, monthOf, rollOf, Step, posts, posts-not, refunds, refunds-not, closes, closes-not, Move, World, Runs, movesOf, eventsOf, EventHolds, EachHolds, Balanced, Holds, Stands}
 use Rattle.ledger.proofs.Sums.{upTo-none}
 use Rattle.ledger.proofs.Places.{copies}
 use Rattle.ledger.proofs.Steps.{Kept, hour-kept, hour-holds, refund-kept, refund-whole, close-kept, close-loads, paid-of}

@@ -1,37 +1,36 @@
 -- Each call keeps month and roll with the ledger.
 use mathlib.Core.Path.{_≡_, refl, sym, ap, subst, _∙_}
-use mathlib.Core.Bool.{Bool, true, false, cond}
+use mathlib.Core.Bool.{true}
 use mathlib.Core.List.{List}
-use Prim.Native.Nat.{ℕ, zero, suc, _+_, _-_, _*_, _<_, _≤_, min}
+use Prim.Native.Nat.{ℕ, zero, suc, _<_}
 use native.Mathlib.Omega.{arith}
 use lib.IntN.{ℤ, pos, _+ℤ_}
-use lib.ListN.{length, getD, replicate}
+use lib.ListN.{length, getD}
 use Rattle.std.specs.Options.{isSome, mapped, valueOr}
 use Rattle.std.specs.declared.option.Option.{Option}
 use Rattle.std.specs.declared.option.Option.the-variants.{Some, None}
 use Rattle.rows.specs.declared.plain.HoldingRow.{HoldingRow}
 use Rattle.payoff.specs.Rules.{Payoff, Lawful}
-use Rattle.payoff.specs.Tables.{Tables}
 use Rattle.pricing.specs.Amounts.{amountOf}
 use Rattle.pricing.proofs.Within.{paid-at-most, paid-at-least}
 use Rattle.units.specs.Parts.{positive}
 use Rattle.sharing.specs.Shares.{upTo, shareOf}
 use Rattle.sharing.proofs.Parts.{upTo-same}
-use Rattle.sharing.proofs.Laws.{fair, share-none}
+use Rattle.sharing.proofs.Laws.{share-none}
 use Rattle.ledger.specs.declared.lines.HourAnswer.{HourAnswer}
 use Rattle.ledger.specs.declared.lines.HourLine.{HourLine}
 use Rattle.ledger.specs.declared.lines.RollLine.{RollLine}
 use Rattle.ledger.specs.declared.lines.LoadLine.{LoadLine}
-use Rattle.ledger.specs.Lines.{cents, linesOf, clearRoll, clearLoad, refunded as given, paidOut}
-use Rattle.ledger.specs.Hour.{credits, charges, short, left, ownCredit, ownCharge, ownShort, hourLine}
+use Rattle.ledger.specs.Lines.{linesOf, clearRoll, clearLoad, refunded as given, paidOut}
+use Rattle.ledger.specs.Hour.{short, left, ownShort, hourLine}
 use Rattle.ledger.specs.Figures.{Figures}
-use Rattle.ledger.specs.Calls.{refundSum, shortIn, refundedLine, afterRefund, loadTotal, mwhIn, loadOk, paidLine, afterClose, closeTest, RefundAccepted, CloseAccepted}
+use Rattle.ledger.specs.Calls.{refundSum, shortIn, refundedLine, afterRefund, loadTotal, mwhIn, loadOk, paidLine, afterClose, RefundAccepted, CloseAccepted}
 use Rattle.ledger.specs.Posting.{Posting, amountIn, rentOf, duesOf, noHolding, afterPost, addedTo, postedLine, answerOf, PostAccepted}
-use Rattle.ledger.specs.Ledger.{Ledger, blank, withHour, repaid, withRefund, withLoads, figuresOf, ownerLine, loadLine}
+use Rattle.ledger.specs.Ledger.{Ledger, withHour, repaid, withRefund, withLoads, figuresOf, ownerLine, loadLine}
 use Rattle.ledger.specs.Runs.{Keeps, ByRule, HourHolds, Balanced}
 use Rattle.ledger.proofs.Sums.{upTo-add, upTo-at, share-back}
-use Rattle.ledger.proofs.Passed.{Passed, Held, passed}
-use Rattle.ledger.proofs.Owners.{all-credits, fair-hour, all-shorts}
+use Rattle.ledger.proofs.Passed.{passed}
+use Rattle.ledger.proofs.Owners.{fair-hour, all-shorts}
 use Rattle.ledger.proofs.Closable.{closable, every-at, unpaid}
 use Rattle.ledger.proofs.Places.{length-lines, at-line, same-lines, front-at, past-front, length-front}
 

@@ -15,7 +15,7 @@ use Rattle.sharing.specs.Shares.{shareOf, weightsOf}
 use Rattle.units.specs.Parts.{positive}
 use Rattle.ledger.specs.declared.lines.RollLine.{RollLine}
 use Rattle.ledger.specs.declared.lines.LoadLine.{LoadLine}
-use Rattle.ledger.specs.Lines.{cents, linesOf, clearRoll, clearLoad, refunded, paidOut}
+use Rattle.ledger.specs.Lines.{linesOf, clearRoll, clearLoad, refunded, paidOut}
 use Rattle.ledger.specs.Figures.{Figures, started, within, tied}
 
 -- the refusal of the first of two tests that refuses

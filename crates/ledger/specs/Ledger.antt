@@ -2,7 +2,7 @@
 use mathlib.Core.List.{List, [], _∷_}
 use Prim.Native.Nat.{ℕ, _+_, _-_, min}
 use lib.IntN.{ℤ}
-use lib.ListN.{length, getD}
+use lib.ListN.{getD}
 use Rattle.refusals.specs.Numbers.{Told}
 use Rattle.sharing.specs.Shares.{shareOf}
 use Rattle.ledger.specs.declared.lines.HourAnswer.{HourAnswer}

@@ -1,7 +1,7 @@
 -- The figures of a roll that is the month's.
-use mathlib.Core.Path.{_≡_, refl, sym, ap, _∙_}
-use mathlib.Core.Bool.{Bool, true, false, _&&_}
-use mathlib.Core.List.{List, [], _∷_}
+use mathlib.Core.Path.{_≡_, ap, _∙_}
+use mathlib.Core.Bool.{Bool, true, _&&_}
+use mathlib.Core.List.{List}
 use Prim.Native.Nat.{ℕ, _+_, _≤_, _<_}
 use native.Mathlib.Omega.{arith}
 use lib.Dec.{eqb, leb}
@@ -12,7 +12,6 @@ use Rattle.std.proofs.shelf.Lists.{at-drop-more}
 use Rattle.std.proofs.shelf.Tests.{and-parts, leb-true, eqb-true}
 use Rattle.units.specs.Parts.{positive}
 use Rattle.ledger.specs.declared.lines.RollLine.{RollLine}
-use Rattle.ledger.specs.Lines.{clearRoll}
 use Rattle.ledger.specs.Figures.{Figures, every, within, lineWithin, columnSum, tied}
 
 pub within-le : (t : ℕ) (z : ℤ) → (leZ (pos 0) z && leZ z (pos t)) ≡ true → positive z ≤ t

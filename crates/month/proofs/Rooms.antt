@@ -1,22 +1,20 @@
 -- Lines that have room for a share, and lines with their shares.
-use mathlib.Core.Path.{_≡_, refl, sym, ap, _∙_}
-use mathlib.Core.Bool.{Bool, true, false, cond, _&&_}
+use mathlib.Core.Path.{_≡_}
+use mathlib.Core.Bool.{true, _&&_}
 use mathlib.Core.List.{List, [], _∷_}
-use Prim.Native.Nat.{ℕ, suc, _+_, _*_, _≤_, _<_, _^_}
+use Prim.Native.Nat.{ℕ, _+_, _*_, _≤_, _<_, _^_}
 use native.Mathlib.Omega.{arith}
 use borrow.Author.Differences.{ints}
 use lib.Dec.{leb}
 use lib.IntN.{ℤ, pos, negsuc, _+ℤ_}
 use lib.ListN.{length, getD}
 use lib.Signed.{leZ, _<ℤ_}
-use Rattle.std.specs.shelf.Lists.{All, sumBy}
 use Rattle.std.proofs.shelf.Counted.{fill-by-all}
 use Rattle.std.proofs.shelf.Sums.{sumBy-cons}
 use Rattle.std.proofs.shelf.Tests.{and-parts, leb-true}
-use Rattle.units.specs.Parts.{positive}
 use Rattle.ledger.specs.declared.lines.LoadLine.{LoadLine}
 use Rattle.ledger.specs.Lines.{linesOf}
-use Rattle.ledger.specs.Figures.{every, within}
+use Rattle.ledger.specs.Figures.{every}
 use Rattle.ledger.specs.Calls.{loadOk, loadTotal}
 
 -- a figure within a total has room for a share

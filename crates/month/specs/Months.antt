@@ -1,5 +1,4 @@
 -- A month seen by its figures, in each of its states.
-use Prim.Native.Nat.{ℕ}
 use Rattle.ledger.specs.Figures.{Figures}
 use Rattle.month.specs.declared.state.OpenMonth.{OpenMonth}
 use Rattle.month.specs.declared.state.RefundedMonth.{RefundedMonth}

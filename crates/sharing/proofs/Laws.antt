@@ -1,5 +1,5 @@
 -- The laws of sharing.
-use mathlib.Core.Path.{_≡_, refl, sym, ap, subst, _∙_}
+use mathlib.Core.Path.{_≡_, refl, sym, ap, _∙_}
 use Prim.Native.Nat.{ℕ, zero, suc, _+_, _-_, _*_, _/_, _<_, _≤_}
 use native.Mathlib.Nat.{mul-le-mul-right, mul-add, mul-sub, mul-zero, zero-div, div-zero, mul-div-cancel, div-mul-le-self, lt-div-mul-add, add-mul-div-left, mul-comm}
 use native.Mathlib.Omega.{arith}

@@ -1,15 +1,13 @@
 use mathlib.Core.Path.{_≡_, refl, sym, ap, subst, _∙_}
 use mathlib.Core.List.{_++_}
-use Prim.Native.Nat.{ℕ, _+_, _-_, _*_, _/_, _≤_, _<_, _^_}
-use native.Mathlib.Nat.{mul-zero, zero-div}
+use Prim.Native.Nat.{_+_, _<_, _^_}
 use native.Mathlib.Omega.{arith}
-use borrow.Author.Differences.{ints}
 use lib.IntN.{pos, _+ℤ_}
 use lib.ListN.{getD, drop, take, length, set}
 use lib.Signed.{_<ℤ_}
-use Rattle.std.specs.shelf.Lists.{sumBy, All}
+use Rattle.std.specs.shelf.Lists.{All}
 use Rattle.std.proofs.shelf.Sums.{sumBy-drop-more}
-use Rattle.sharing.specs.Shares.{weightsOf, shareOf}
+use Rattle.sharing.specs.Shares.{weightsOf}
 use Rattle.sharing.proofs.Laws.{fair}
 use Rattle.sharing.proofs.Parts.{part-mono, part-le, upTo-all}
 use Rattle.sharing.proofs.Steps.{shareAfter, sharedFrom, all-step, drop-after, shared-more, shared-all, shared-out, length-shared}

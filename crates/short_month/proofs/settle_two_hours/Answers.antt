@@ -1,8 +1,5 @@
 use mathlib.Core.Path.{refl}
 use Rattle.std.proofs.shelf.Results.{cases-from-err}
-use Rattle.rows.specs.Plain.{plainDay}
-use Rattle.payoff.specs.Tables.{tables}
-use Rattle.month.specs.Months.{ofOpen, ofRefunded, ofClosed}
 use Rattle.short_month.proofs.Whole.{two-hours}
 use Rattle.short_month.proofs.settle_two_hours.Needs as need
 

@@ -1,10 +1,8 @@
-use mathlib.Core.Path.{_≡_, refl, sym, ap, _∙_}
-use mathlib.Core.Bool.{true, false, cond, _&&_}
-use Prim.Native.Nat.{_+_, _<_, _^_, _≤_}
+use mathlib.Core.Path.{_≡_, sym, ap, _∙_}
+use mathlib.Core.Bool.{true, false, _&&_}
 use native.Mathlib.Omega.{arith}
 use lib.Dec.{eqb}
-use lib.ListN.{length, take, drop, getD}
-use Rattle.std.specs.shelf.Lists.{sumBy}
+use lib.ListN.{length, take, getD}
 use Rattle.std.proofs.shelf.Lists.{at-drop-all, take-all}
 use Rattle.std.proofs.shelf.Sums.{sumBy-more}
 use Rattle.std.proofs.shelf.Tests.{eq-eqb, ne-eqb}

@@ -1,20 +1,20 @@
 use mathlib.Core.Path.{_≡_, refl, sym, ap, _∙_}
-use mathlib.Core.Bool.{true, false, cond}
-use Prim.Native.Nat.{ℕ, _+_, _≤_, _<_, _^_}
+use mathlib.Core.Bool.{cond}
+use Prim.Native.Nat.{ℕ, _^_}
 use native.Mathlib.Omega.{arith}
 use lib.IntN.{pos, _+ℤ_}
-use lib.ListN.{length, getD}
+use lib.ListN.{getD}
 use lib.Signed.{_<ℤ_}
 use Rattle.std.specs.declared.option.Option.the-variants.{Some, None}
 use Rattle.refusals.specs.Numbers.{refusedAt}
 use Rattle.sharing.specs.Shares.{shareOf}
 use Rattle.ledger.specs.declared.lines.RollLine.{RollLine}
 use Rattle.ledger.specs.Lines.{clearRoll, refunded}
-use Rattle.ledger.specs.Figures.{lineWithin, tied}
+use Rattle.ledger.specs.Figures.{lineWithin}
 use Rattle.ledger.specs.Calls.{refundedLine, shortIn}
 use Rattle.month.specs.Months.{ofOpen}
-use Rattle.month.proofs.Columns.{Tied, tied-true, line-fits}
-use Rattle.ledger.proofs.Closable.{each-of, closable}
+use Rattle.month.proofs.Columns.{tied-true, line-fits}
+use Rattle.ledger.proofs.Closable.{each-of}
 use Rattle.month.proofs.Rooms.{within-room, by-rule}
 use Rattle.month.proofs.Moves.{refund-figures}
 use Rattle.month.proofs.state.OpenMonth.refund.Needs as need

@@ -1,19 +1,15 @@
-use mathlib.Core.Path.{_≡_, refl, sym, ap, _∙_}
-use mathlib.Core.Bool.{true, false}
-use Prim.Native.Nat.{ℕ, _+_, _≤_, _<_, _^_}
+use mathlib.Core.Path.{sym, ap, _∙_}
+use Prim.Native.Nat.{ℕ, _^_}
 use native.Mathlib.Omega.{arith}
 use lib.Dec.{leb}
 use lib.IntN.{pos, _+ℤ_}
-use lib.ListN.{length, getD}
+use lib.ListN.{getD}
 use lib.Signed.{_<ℤ_}
-use Rattle.std.specs.Options.{mapped}
-use Rattle.std.specs.declared.option.Option.the-variants.{Some, None}
 use Rattle.std.proofs.shelf.Tests.{and-parts}
-use Rattle.refusals.specs.Numbers.{told}
 use Rattle.sharing.specs.Shares.{shareOf}
 use Rattle.ledger.specs.declared.lines.LoadLine.{LoadLine}
 use Rattle.ledger.specs.Lines.{clearLoad, paidOut}
-use Rattle.ledger.specs.Calls.{loadOk, closeTest, paidLine, mwhIn}
+use Rattle.ledger.specs.Calls.{loadOk, paidLine, mwhIn}
 use Rattle.month.specs.Months.{ofRefunded}
 use Rattle.ledger.proofs.Closable.{each-of, closable}
 use Rattle.month.proofs.Rooms.{within-room, by-rule, load-le}
