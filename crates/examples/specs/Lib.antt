@@ -1,2 +1,3 @@
 pub mod Hour
+pub mod Shared
 pub mod Settled

@@ -12,6 +12,7 @@ use Rattle.payoff.specs.Tables.{Tables}
 use Rattle.payoff.specs.Instruments.{standard}
 use Rattle.pricing.specs.Amounts.{amountOf}
 use Rattle.pricing.specs.Calls.{Priced, pricingOf}
+use Rattle.examples.specs.Shared.{sharedEvenly, shortfalls, monthEnd}
 use Rattle.examples.specs.Hour.{hour, hourAt, held, heldWith}
 
 -- some figures of a pricing, or none where it is refused
@@ -45,7 +46,7 @@ example gives must = record { gives = gives; must = must }
 
 abbrev pub examples : List Example
 examples =
-    example (priced amount hour (held Obligation 2 0)) (negℤ (pos 5000) ∷ []) ∷ example (priced amount hour (held PtpOption 0 2)) (pos 0 ∷ []) ∷ example (priced derationHedgeAmount hour (held Obligation 1 0)) (pos 500 ∷ pos 2500 ∷ negℤ (pos 10000) ∷ []) ∷ example (priced derationHedgeAmount hour (held Obligation 3 0)) (pos 400 ∷ pos 300 ∷ negℤ (pos 16000) ∷ []) ∷ example (priced amount (hourAt 50000 10000) (held Obligation 3 0)) (negℤ (pos 3000) ∷ []) ∷ example (priced quantityAmount hour (heldWith OptionWithRefund 3 0 50 25)) (pos 40 ∷ negℤ (pos 6400) ∷ []) ∷ example (tenthAt (pos 5)) (negℤ (pos 1) ∷ []) ∷ example (tenthAt (negℤ (pos 5))) (pos 1 ∷ []) ∷ example (tenthAt (pos 4)) (pos 0 ∷ []) ∷ []
+    example (priced amount hour (held Obligation 2 0)) (negℤ (pos 5000) ∷ []) ∷ example (priced amount hour (held PtpOption 0 2)) (pos 0 ∷ []) ∷ example (priced derationHedgeAmount hour (held Obligation 1 0)) (pos 500 ∷ pos 2500 ∷ negℤ (pos 10000) ∷ []) ∷ example (priced derationHedgeAmount hour (held Obligation 3 0)) (pos 400 ∷ pos 300 ∷ negℤ (pos 16000) ∷ []) ∷ example (priced amount (hourAt 50000 10000) (held Obligation 3 0)) (negℤ (pos 3000) ∷ []) ∷ example (priced quantityAmount hour (heldWith OptionWithRefund 3 0 50 25)) (pos 40 ∷ negℤ (pos 6400) ∷ []) ∷ example (tenthAt (pos 5)) (negℤ (pos 1) ∷ []) ∷ example (tenthAt (negℤ (pos 5))) (pos 1 ∷ []) ∷ example (tenthAt (pos 4)) (pos 0 ∷ []) ∷ example sharedEvenly (pos 0 ∷ pos 1 ∷ pos 1 ∷ []) ∷ example shortfalls (pos 3000 ∷ pos 2000 ∷ pos 0 ∷ []) ∷ example monthEnd (pos 3000 ∷ pos 2000 ∷ pos 4000 ∷ pos 1000 ∷ pos 3000 ∷ []) ∷ []
 
 -- every example gives what it must
 abbrev pub AllHold : List Example → Type 0

@@ -7,5 +7,5 @@ pub fn settled_examples() -> usize
     ensures count { λ r. ⌜ r ≡ length examples ⌝ }
     ensures hold { λ _. ⌜ AllHold examples ⌝ }
 {
-    9
+    12
 }

@@ -6,4 +6,4 @@ use Rattle.examples.proofs.settled.settled_examples.Needs as need
 
 pub returns : need.returns
 unfolding roundTenths roundDeration constraintOk pointOk holdingOk sizesOk tablesTest servable
-returns c = record { count = refl; hold = (refl, (refl, (refl, (refl, (refl, (refl, (refl, (refl, (refl, tt))))))))) }
+returns c = record { count = refl; hold = (refl, (refl, (refl, (refl, (refl, (refl, (refl, (refl, (refl, (refl, (refl, (refl, tt)))))))))))) }
