@@ -29,12 +29,12 @@ loop-left-holds c =
 pub loop-left-again : need.loop-left-again
 loop-left-again c =
     let i = c .loop-left .inv in
-    let f : SFits w16 (c .from-be-bytes .result) = search needs in
-    let z : toZ w16 (ofZ w16 (c .from-be-bytes .result)) ≡ int2 (getD (c .loop-left .left .now) 0 0) (getD (c .loop-left .left .now) 1 0) =
-    toZ-ofZ w16 (c .from-be-bytes .result) f ∙ c .from-be-bytes .ensures in
-    let s : factorsAt (c .loop-left .left .now) ≡ toZ w16 (ofZ w16 (c .from-be-bytes .result)) ∷ factorsAt (take (length (c .loop-left .left .now) - 2) (drop 2 (c .loop-left .left .now))) =
+    let f : SFits w16 (c .factor-of .result) = search needs in
+    let z : toZ w16 (ofZ w16 (c .factor-of .result)) ≡ int2 (getD (c .loop-left .left .now) 0 0) (getD (c .loop-left .left .now) 1 0) =
+    toZ-ofZ w16 (c .factor-of .result) f ∙ c .factor-of .ensures in
+    let s : factorsAt (c .loop-left .left .now) ≡ toZ w16 (ofZ w16 (c .factor-of .result)) ∷ factorsAt (take (length (c .loop-left .left .now) - 2) (drop 2 (c .loop-left .left .now))) =
     factors-step (c .loop-left .left .now) (search needs) ∙ ap (λ y. y ∷ factorsAt (take (length (c .loop-left .left .now) - 2) (drop 2 (c .loop-left .left .now)))) (sym z) in
-    stored (c .loop-left .table) (c .args .table .now) (c .loop-left .n) (toZ w16 (ofZ w16 (c .from-be-bytes .result))) _ _ _ s (i .0) (i .1) (i .2)
+    stored (c .loop-left .table) (c .args .table .now) (c .loop-left .n) (toZ w16 (ofZ w16 (c .factor-of .result))) _ _ _ s (i .0) (i .1) (i .2)
 
 pub returns : need.returns
 returns c =
