@@ -55,11 +55,9 @@ fn first_hour(
     )
 }
 
-/// Each refusal of the hour, with its place.
-pub fn holdings_in_turn(rt: &impl Print) -> io::Result<()> {
+/// Tables of wrong sizes, and entries out of range.
+pub fn sizes_and_entries(rt: &impl Print) -> io::Result<()> {
     let good = obligation(0, 0, 3, 100);
-    let mut peak = obligation(1, 0, 3, 100);
-    peak.block = b'W';
     let mut odd = obligation(1, 0, 3, 100);
     odd.letter = b'X';
     report(
@@ -87,7 +85,14 @@ pub fn holdings_in_turn(rt: &impl Print) -> io::Result<()> {
         rt,
         "a letter out of range",
         first_hour(&[good, odd], &FACTORS, 8, 2),
-    )?;
+    )
+}
+
+/// Holdings that fail a test in turn, each with its place.
+pub fn holdings_in_turn(rt: &impl Print) -> io::Result<()> {
+    let good = obligation(0, 0, 3, 100);
+    let mut peak = obligation(1, 0, 3, 100);
+    peak.block = b'W';
     report(
         rt,
         "an owner off the roll",
@@ -154,17 +159,22 @@ fn hour(
     )
 }
 
+/// Credits of 6,000 and 4,000 and a charge of 1,000.
+fn settled_hour() -> [HoldingRow; 3] {
+    [
+        obligation(0, 0, 3, 10),
+        obligation(1, 0, 2, 4_000),
+        obligation(0, 2, 0, 1_000),
+    ]
+}
+
 /// A month of two hours with refused calls between, and its refund.
 pub fn whole_month(rt: &impl Print) -> io::Result<()> {
     let mut roll = [ROLL; 2];
     let Ok(mut m) = open(&mut roll) else {
         return Ok(());
     };
-    let held = [
-        obligation(0, 0, 3, 10),
-        obligation(1, 0, 2, 4_000),
-        obligation(0, 2, 0, 1_000),
-    ];
+    let held = settled_hour();
     report(rt, "hour 2", hour(&mut m, &mut roll, 2, 4_000, &held))?;
     report(
         rt,
@@ -191,13 +201,17 @@ pub fn whole_month(rt: &impl Print) -> io::Result<()> {
     roll[1].short = Cents { value: 2_000 };
     match m.refund(&mut roll) {
         Ok(m) => {
-            let first = roll[0].refund.value;
-            let second = roll[1].refund.value;
-            println!(rt, "refunds {first} and {second}")?;
+            refunds(rt, &roll[0], &roll[1])?;
             closing(rt, m, &roll)
         }
         Err(_) => Ok(()),
     }
+}
+
+fn refunds(rt: &impl Print, first: &RollLine, second: &RollLine) -> io::Result<()> {
+    let first = first.refund.value;
+    let second = second.refund.value;
+    println!(rt, "refunds {first} and {second}")
 }
 
 /// Closes the month, and answers it where that is refused.

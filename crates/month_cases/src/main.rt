@@ -7,6 +7,7 @@ use std::io;
 
 fn main(rt: LibcRuntime) -> io::Result<()> {
     cases::sizes(&rt)?;
+    cases::sizes_and_entries(&rt)?;
     cases::holdings_in_turn(&rt)?;
     limits::hour_money(&rt)?;
     limits::month_money(&rt)?;
