@@ -17,7 +17,7 @@ use std::io;
 use units::Cents;
 
 /// Rolls that are empty or too long.
-pub fn sizes(rt: &impl Print) -> io::Result<()> {
+pub(crate) fn sizes(rt: &impl Print) -> io::Result<()> {
     let mut long = [ROLL; 129];
     let mut none = [ROLL; 0];
     refused(rt, "a roll of 129 lines", opened(&mut long))?;
@@ -56,7 +56,7 @@ fn first_hour(
 }
 
 /// Tables of wrong sizes, and entries out of range.
-pub fn sizes_and_entries(rt: &impl Print) -> io::Result<()> {
+pub(crate) fn sizes_and_entries(rt: &impl Print) -> io::Result<()> {
     let good = obligation(0, 0, 3, 100);
     let mut odd = obligation(1, 0, 3, 100);
     odd.letter = b'X';
@@ -89,7 +89,7 @@ pub fn sizes_and_entries(rt: &impl Print) -> io::Result<()> {
 }
 
 /// Holdings that fail a test in turn, each with its place.
-pub fn holdings_in_turn(rt: &impl Print) -> io::Result<()> {
+pub(crate) fn holdings_in_turn(rt: &impl Print) -> io::Result<()> {
     let good = obligation(0, 0, 3, 100);
     let mut peak = obligation(1, 0, 3, 100);
     peak.block = b'W';
@@ -169,7 +169,7 @@ fn settled_hour() -> [HoldingRow; 3] {
 }
 
 /// A month of two hours with refused calls between, and its refund.
-pub fn whole_month(rt: &impl Print) -> io::Result<()> {
+pub(crate) fn whole_month(rt: &impl Print) -> io::Result<()> {
     let mut roll = [ROLL; 2];
     let Ok(mut m) = open(&mut roll) else {
         return Ok(());
@@ -283,7 +283,7 @@ const PAIRS: [(u16, u16); 8] = [
 ];
 
 /// 128 owners and 1,024 holdings; the last made the first again; and one holding too many.
-pub fn largest_hour(rt: &impl Print) -> io::Result<()> {
+pub(crate) fn largest_hour(rt: &impl Print) -> io::Result<()> {
     let mut roll = [ROLL; 128];
     let Ok(mut m) = open(&mut roll) else {
         return Ok(());

@@ -36,7 +36,7 @@ fn post(
 }
 
 /// Credits and charges of an hour at 3,000,000,000 cents and one over.
-pub fn hour_money(rt: &impl Print) -> io::Result<()> {
+pub(crate) fn hour_money(rt: &impl Print) -> io::Result<()> {
     let mut roll = [ROLL; 2];
     let Ok(mut m) = open(&mut roll) else {
         return Ok(());
@@ -66,7 +66,7 @@ pub fn hour_money(rt: &impl Print) -> io::Result<()> {
 }
 
 /// A month's balance and its total shortfall at 3,000,000,000 cents and one over.
-pub fn month_money(rt: &impl Print) -> io::Result<()> {
+pub(crate) fn month_money(rt: &impl Print) -> io::Result<()> {
     let mut roll = [ROLL; 2];
     let Ok(mut m) = open(&mut roll) else {
         return Ok(());

@@ -13,28 +13,28 @@ use rows::PointRow;
 use std::io;
 use units::Cents;
 
-pub const NOTHING: Cents = Cents { value: 0 };
+pub(crate) const NOTHING: Cents = Cents { value: 0 };
 
-pub const ROLL: RollLine = RollLine {
+pub(crate) const ROLL: RollLine = RollLine {
     credit: NOTHING,
     charge: NOTHING,
     short: NOTHING,
     refund: NOTHING,
 };
 
-pub const HOUR: HourLine = HourLine {
+pub(crate) const HOUR: HourLine = HourLine {
     credit: NOTHING,
     charge: NOTHING,
     short: NOTHING,
 };
 
-pub const CONSTRAINTS: [ConstraintRow; 1] = [ConstraintRow {
+pub(crate) const CONSTRAINTS: [ConstraintRow; 1] = [ConstraintRow {
     shadow: 0,
     deration: 0,
 }];
 
 /// A Hub of a price.
-pub const fn hub(price: i32) -> PointRow {
+pub(crate) const fn hub(price: i32) -> PointRow {
     PointRow {
         letter: b'H',
         price,
@@ -43,10 +43,10 @@ pub const fn hub(price: i32) -> PointRow {
     }
 }
 
-pub const FACTORS: [i16; 4] = [0; 4];
+pub(crate) const FACTORS: [i16; 4] = [0; 4];
 
 /// An obligation between two points, for hours that are off-peak.
-pub fn obligation(owner: u16, source: u16, sink: u16, quantity: u32) -> HoldingRow {
+pub(crate) fn obligation(owner: u16, source: u16, sink: u16, quantity: u32) -> HoldingRow {
     HoldingRow {
         owner,
         letter: b'B',
@@ -60,12 +60,12 @@ pub fn obligation(owner: u16, source: u16, sink: u16, quantity: u32) -> HoldingR
 }
 
 /// Hub 0 at nothing, 1 at 300,000, 2 at 10 and 3 at 6,000 cents.
-pub fn points() -> [PointRow; 4] {
+pub(crate) fn points() -> [PointRow; 4] {
     [hub(0), hub(300_000), hub(10), hub(6_000)]
 }
 
 /// An off-peak hour.
-pub fn day(hour: u16, rent: u64) -> Result<Day, Refusal> {
+pub(crate) fn day(hour: u16, rent: u64) -> Result<Day, Refusal> {
     Day::from_row(
         &DayRow {
             hour,
@@ -77,7 +77,7 @@ pub fn day(hour: u16, rent: u64) -> Result<Day, Refusal> {
     )
 }
 
-pub fn load(mwh: u32, paid: i64) -> LoadLine {
+pub(crate) fn load(mwh: u32, paid: i64) -> LoadLine {
     LoadLine {
         mwh,
         paid: Cents { value: paid },
@@ -85,7 +85,11 @@ pub fn load(mwh: u32, paid: i64) -> LoadLine {
 }
 
 /// Prints what a post answered.
-pub fn report(rt: &impl Print, name: &str, answer: Result<HourAnswer, Refusal>) -> io::Result<()> {
+pub(crate) fn report(
+    rt: &impl Print,
+    name: &str,
+    answer: Result<HourAnswer, Refusal>,
+) -> io::Result<()> {
     match answer {
         Ok(a) => {
             let rent = a.rent.value;
@@ -103,7 +107,7 @@ pub fn report(rt: &impl Print, name: &str, answer: Result<HourAnswer, Refusal>) 
 }
 
 /// Prints the refusal of a call, or that it was accepted.
-pub fn refused(rt: &impl Print, name: &str, answer: Result<(), Refusal>) -> io::Result<()> {
+pub(crate) fn refused(rt: &impl Print, name: &str, answer: Result<(), Refusal>) -> io::Result<()> {
     match answer {
         Ok(()) => println!(rt, "{name}: accepted"),
         Err(e) => println!(rt, "{name}: {e}"),

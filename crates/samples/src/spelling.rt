@@ -5,7 +5,7 @@ use std::error::AnyError;
 
 /// How many entries each of the caller's tables has.
 #[derive(Clone, Copy)]
-pub struct Room {
+pub(crate) struct Room {
     pub constraints: usize,
     pub points: usize,
     pub factors: usize,
@@ -47,7 +47,7 @@ fn count(word: Option<&str>) -> Result<usize, AnyError> {
 }
 
 /// The lengths of the tables and the bytes of a line.
-pub fn spelled(heap: Global, text: &str) -> Result<(Room, Vec<u8>), AnyError> {
+pub(crate) fn spelled(heap: Global, text: &str) -> Result<(Room, Vec<u8>), AnyError> {
     let mut out = Vec::new(heap);
     let mut words = text.split(' ');
     let room = Room {

@@ -6,7 +6,7 @@ use statement::write_statement;
 use std::error::AnyError;
 
 /// Prints the statement of an hour with two holdings, of which one pays and one is paid.
-pub fn state(rt: &LibcRuntime) -> Result<(), AnyError> {
+pub(crate) fn state(rt: &LibcRuntime) -> Result<(), AnyError> {
     let Ok(day) = Day::new(DayRow {
         hour: 744,
         weekday: 6,

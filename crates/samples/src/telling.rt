@@ -39,7 +39,7 @@ fn written_alike(
 }
 
 /// Prints what reading a package into tables of these lengths answers.
-pub fn tell(rt: &LibcRuntime, room: Room, bytes: &[u8]) -> Result<(), AnyError> {
+pub(crate) fn tell(rt: &LibcRuntime, room: Room, bytes: &[u8]) -> Result<(), AnyError> {
     let heap = rt.alloc();
     let no_constraint = ConstraintRow {
         shadow: 0,
