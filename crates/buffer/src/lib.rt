@@ -1,4 +1,7 @@
 //! Bytes written into a buffer that the caller lends.
+
+#![tactic(auto)]
+
 ghost use Rattle.std.specs.Prelude.{◌≡◌, ◌+◌, ◌<◌, ◌≤◌, length};
 ghost use Rattle.buffer.specs.Writes.{Wrote};
 

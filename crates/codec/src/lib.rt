@@ -1,4 +1,7 @@
 //! The records of a package: the fields of each kind read from bytes and written as bytes.
+
+#![tactic(auto)]
+
 mod factors;
 mod fields;
 mod readings;

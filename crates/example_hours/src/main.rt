@@ -1,4 +1,7 @@
 //! The settled examples that are shown by a run: the block of two hours, a quantity of nought, and a package of 20 bytes.
+
+#![tactic(auto)]
+
 use payoff::standard_instrument;
 use rows::{Day, DayRow, HeldQuantity, block_at};
 use settlement::settle_package;

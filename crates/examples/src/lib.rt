@@ -1,4 +1,7 @@
 //! The settled examples.
+
+#![tactic(auto)]
+
 mod settled;
 
 pub use settled::settled_examples;

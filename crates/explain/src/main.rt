@@ -1,4 +1,7 @@
 //! Reads a package from standard input and says why each of its holdings is paid what it is.
+
+#![tactic(auto)]
+
 use hour_text::explain_package;
 use payoff::standard_instrument;
 use std::io::Read;

@@ -1,4 +1,7 @@
 //! Reads a package from standard input and says why each of its holdings is paid what it is, and what each owner comes to.
+
+#![tactic(auto)]
+
 use hour_explained::explain_package;
 use input::read_up_to;
 use payoff::standard_instrument;

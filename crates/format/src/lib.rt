@@ -1,5 +1,7 @@
 //! The form of a package: its limits. What a package is, and what reading and writing one answer, is in `specs/`.
 
+#![tactic(auto)]
+
 /// The most constraints of an hour.
 pub const MOST_CONSTRAINTS: usize = 32;
 

@@ -1,5 +1,8 @@
 //! Settles hours whose outcome was worked out apart from this engine, and says where it differs; and explains an hour
 //! that is refused.
+
+#![tactic(auto)]
+
 mod cases;
 mod spelling;
 

@@ -1,4 +1,7 @@
 //! Why an hour settles as it does, from its package, in text for a clerk.
+
+#![tactic(auto)]
+
 mod owners;
 mod package_text;
 

@@ -1,4 +1,7 @@
 //! An hour read from its package, in tables of its own.
+
+#![tactic(auto)]
+
 mod blanks;
 mod hour_tables;
 mod reading;

@@ -1,4 +1,7 @@
 //! Input of which no more is read than there is room for.
+
+#![tactic(auto)]
+
 ghost use Rattle.std.specs.Prelude.{◌≤◌, length, IfOk};
 
 use std::io;

@@ -1,4 +1,7 @@
 //! The lines that a month is kept on, and the books that its calls are held to.
+
+#![tactic(auto)]
+
 mod line_shares;
 mod lines;
 mod tests;

@@ -1,4 +1,7 @@
 //! Rows, tables and the pricing call at the edges of their ranges.
+
+#![tactic(auto)]
+
 #[cfg(test)]
 mod pricing_tests;
 #[cfg(test)]

@@ -1,4 +1,7 @@
 //! Lines of money in text: one line for each entry of a table.
+
+#![tactic(auto)]
+
 mod lines;
 mod listing;
 

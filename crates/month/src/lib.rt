@@ -1,4 +1,7 @@
 //! A month of hours, from open to close: the calls, and what every run of them keeps.
+
+#![tactic(auto)]
+
 mod admit;
 mod close;
 mod closed;

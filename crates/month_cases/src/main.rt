@@ -1,4 +1,7 @@
 //! Calls on months at their limits and past them: what each answers, or its refusal.
+
+#![tactic(auto)]
+
 mod cases;
 mod limits;
 mod tables;

@@ -1,4 +1,7 @@
 //! Settles a month from its hour files: posts each, sets aside what is refused, refunds and closes, and prints the month.
+
+#![tactic(auto)]
+
 mod arguments;
 mod files;
 mod telling;

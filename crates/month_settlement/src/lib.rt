@@ -1,4 +1,7 @@
 //! A month settled from its packages: every hour posted or set aside, then refunded and closed.
+
+#![tactic(auto)]
+
 mod booking;
 mod closing;
 mod outcomes;

@@ -1,4 +1,7 @@
 //! Reads a package into the caller's tables.
+
+#![tactic(auto)]
+
 mod counts;
 mod filled;
 mod filling;

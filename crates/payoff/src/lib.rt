@@ -1,5 +1,8 @@
 //! What an instrument means: the hour's tables, tested once; the payoff rules as a trait's law; obligation, option,
 //! Refund over any instrument and Choice over any two.
+
+#![tactic(auto)]
+
 mod choice;
 mod deration;
 mod figures;

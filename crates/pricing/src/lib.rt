@@ -1,4 +1,7 @@
 //! The pricing call: every figure of one holding, under any instrument.
+
+#![tactic(auto)]
+
 mod amounts;
 mod calls;
 mod pricing;

@@ -1,4 +1,7 @@
 //! Records of a package, and a reader that keeps its own place among them.
+
+#![tactic(auto)]
+
 mod entry;
 mod reader;
 mod reading;

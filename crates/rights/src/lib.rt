@@ -1,4 +1,7 @@
 //! Holdings that are the same right, found by a table of chains.
+
+#![tactic(auto)]
+
 mod chain;
 mod right;
 mod search;

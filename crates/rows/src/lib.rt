@@ -1,5 +1,8 @@
 //! Rows of an hour: plain as they lie in tables, and typed with every figure in its range; their letters; and the
 //! table of the week's hours.
+
+#![tactic(auto)]
+
 mod constraint;
 mod day;
 mod holding;

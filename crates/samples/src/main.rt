@@ -1,5 +1,8 @@
 //! Reads packages that are spelled on standard input, one to a line, and tells what reading each answers; one that is taken is
 //! written back and compared. Then it prints a statement.
+
+#![tactic(auto)]
+
 mod spelling;
 mod stating;
 mod telling;

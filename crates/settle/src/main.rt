@@ -1,5 +1,8 @@
 //! Reads a package from standard input, posts its hour into a month of 128 owners, and prints the statement or the
 //! refusal.
+
+#![tactic(auto)]
+
 use input::read_up_to;
 use payoff::standard_instrument;
 use settlement::{LARGEST_STATEMENT, refused_line, settle_package};

@@ -1,4 +1,7 @@
 //! One hour settled from its package, as the first of a month of 128 owners.
+
+#![tactic(auto)]
+
 mod settling;
 mod text;
 

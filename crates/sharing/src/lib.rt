@@ -1,4 +1,7 @@
 //! Sharing a sum over lines by weight: one text for every kind of line.
+
+#![tactic(auto)]
+
 ghost use Rattle.std.specs.Prelude.{◌≡◌, ℕ, ◌+◌, ◌-◌, ◌*◌, ◌/◌, ◌^◌, ◌<◌, ◌≤◌, length, ℤ, pos, ◌+ℤ◌, ◌<ℤ◌, sum_by, slice_index_or};
 ghost use Rattle.std.specs.List.{AllByRecursion as All};
 ghost use Rattle.sharing.specs.Shares.{limit, share_of, weights_of, Fair};

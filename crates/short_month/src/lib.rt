@@ -1,4 +1,7 @@
 //! A month of two hours, from open to close: real calls, held to what open promises of every run.
+
+#![tactic(auto)]
+
 ghost use Rattle.std.specs.Prelude.{◌≡◌, MatchResult};
 ghost use Rattle.rows.specs.Plain.{plain_day};
 ghost use Rattle.payoff.specs.Tables.{tables};

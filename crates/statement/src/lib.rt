@@ -1,4 +1,7 @@
 //! The statement of an hour, in lines of text.
+
+#![tactic(auto)]
+
 mod digits;
 mod figures;
 mod lengths;

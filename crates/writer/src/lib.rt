@@ -1,4 +1,7 @@
 //! Writes the package of an hour into the caller's buffer.
+
+#![tactic(auto)]
+
 mod pieces;
 mod recorded;
 mod sizes;
