@@ -65,7 +65,7 @@ fn answer_at<I: Instrument>(
     place: usize,
     row: &HoldingRow,
 ) -> Result<Pricing, Refusal>
-    ensures { told_by plain_pricing result ≡ answer_at (means instrument.now) (tables_of hour.now) place row.now }
+    ensures { told_by plain_pricing result ≡ answer_at (I.means instrument.now) (tables_of hour.now) place row.now }
 {
     match Holding::from_row(row, place) {
         Ok(holding) => price_in(instrument, hour, &holding, place),
@@ -100,7 +100,7 @@ fn push_lines<I: Instrument>(
     hour: &TestedTables,
     holdings: &[HoldingRow],
 ) -> fmt::Result
-    ensures { OnOk result (string_bytes text.new ≡ string_bytes text.old ++ lines_from (means instrument.now) (tables_of hour.now) 0 holdings.now) }
+    ensures { OnOk result (string_bytes text.new ≡ string_bytes text.old ++ lines_from (I.means instrument.now) (tables_of hour.now) 0 holdings.now) }
 {
     for (place, row) in holdings.iter().enumerate() {
         let answer = answer_at(instrument, hour, place, row);
@@ -118,7 +118,7 @@ pub fn explain_holdings<'a, I: Instrument>(
     factors: &'a [i16],
     holdings: &[HoldingRow],
 ) -> Result<String, fmt::Error>
-    ensures { IfOk result (λ s. string_bytes s ≡ explanation_of (means instrument.now) (tables constraints.now points.now factors.now) holdings.now) }
+    ensures { IfOk result (λ s. string_bytes s ≡ explanation_of (I.means instrument.now) (tables constraints.now points.now factors.now) holdings.now) }
 {
     let mut text = String::new(heap);
     let (hour, refusal) = test_tables(constraints, points, factors);

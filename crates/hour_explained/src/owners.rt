@@ -39,7 +39,7 @@ pub(crate) fn push_owners<I: Instrument>(
     instrument: &I,
     hour: &HourTables,
 ) -> fmt::Result
-    ensures { OnOk result (string_bytes text.new ≡ string_bytes text.old ++ owners_text (means instrument.now) (tables_in hour.now)) }
+    ensures { OnOk result (string_bytes text.new ≡ string_bytes text.old ++ owners_text (I.means instrument.now) (tables_in hour.now)) }
 {
     let mut roll = [CLEAR_ROLL; 128];
     let mut month = match open(&mut roll) {

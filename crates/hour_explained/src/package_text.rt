@@ -15,7 +15,7 @@ fn explain_hour<I: Instrument>(
     instrument: &I,
     hour: &HourTables,
 ) -> Result<String, fmt::Error>
-    ensures { IfOk result (λ s. string_bytes s ≡ hour_text (means instrument.now) (tables_in hour.now)) }
+    ensures { IfOk result (λ s. string_bytes s ≡ hour_text (I.means instrument.now) (tables_in hour.now)) }
 {
     let mut text = explain_holdings(
         heap,
@@ -36,7 +36,7 @@ pub fn explain_package<I: Instrument>(
     instrument: &I,
     bytes: &[u8],
 ) -> Result<String, fmt::Error>
-    ensures { IfOk result (λ s. string_bytes s ≡ package_text (means instrument.now) bytes.now) }
+    ensures { IfOk result (λ s. string_bytes s ≡ package_text (I.means instrument.now) bytes.now) }
 {
     let mut hour = HourTables::new();
     match hour.read(bytes) {

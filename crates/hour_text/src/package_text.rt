@@ -37,7 +37,7 @@ pub fn explain_package<I: Instrument>(
     instrument: &I,
     bytes: &[u8],
 ) -> Result<String, fmt::Error>
-    ensures { IfOk result (λ s. string_bytes s ≡ package_text (means instrument.now) bytes.now) }
+    ensures { IfOk result (λ s. string_bytes s ≡ package_text (I.means instrument.now) bytes.now) }
 {
     let mut constraints = [NO_CONSTRAINT; 32];
     let mut points = [NO_POINT; 256];

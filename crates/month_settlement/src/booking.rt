@@ -18,7 +18,7 @@ pub(crate) fn book_hour<I: Instrument>(
     instrument: &I,
     bytes: &[u8],
 ) -> Result<BookedHour, Refusal>
-    ensures { Booking (means instrument.now) (length roll.old) bytes.now (of_open month.old) roll.old (told_by (λ h. h) result) (of_open month.new) roll.new }
+    ensures { Booking (I.means instrument.now) (length roll.old) bytes.now (of_open month.old) roll.old (told_by (λ h. h) result) (of_open month.new) roll.new }
 {
     let mut tables = HourTables::new();
     match tables.read(bytes) {

@@ -24,7 +24,7 @@ pub(crate) fn post_all<I: Instrument, P: Progress>(
     hours: &mut Vec<Result<BookedHour, Refusal>>,
     progress: &mut P,
 ) -> Result<(), AllocError>
-    ensures { OnOk result (Stands (length roll.old) (of_open month.old) roll.old → PostedAll (means instrument.now) (length roll.old) (bytes_of packages.now) (of_open month.old) roll.old hours.old.items (of_open month.new) roll.new hours.new.items) }
+    ensures { OnOk result (Stands (length roll.old) (of_open month.old) roll.old → PostedAll (I.means instrument.now) (length roll.old) (bytes_of packages.now) (of_open month.old) roll.old hours.old.items (of_open month.new) roll.new hours.new.items) }
 {
     for package in packages {
         let outcome = book_hour(month, roll, instrument, package.as_slice());

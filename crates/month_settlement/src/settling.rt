@@ -22,7 +22,7 @@ fn settle_on<I: Instrument, P: Progress>(
     progress: &mut P,
 ) -> Result<ClosedMonth, MonthError>
     requires { hours.old.items ≡ [] }
-    ensures { MatchResult result (λ c. MonthSettled (means instrument.now) (length roll.old) (bytes_of packages.now) loads.old hours.new.items (of_closed c) roll.new loads.new) (λ e. MonthRefused (means instrument.now) (length roll.old) (bytes_of packages.now) loads.old e loads.new) }
+    ensures { MatchResult result (λ c. MonthSettled (I.means instrument.now) (length roll.old) (bytes_of packages.now) loads.old hours.new.items (of_closed c) roll.new loads.new) (λ e. MonthRefused (I.means instrument.now) (length roll.old) (bytes_of packages.now) loads.old e loads.new) }
 {
     let mut month = match open(roll) {
         Ok(month) => month,
@@ -49,7 +49,7 @@ pub fn settle_month<I: Instrument, P: Progress>(
     loads: &mut [LoadLine],
     progress: &mut P,
 ) -> Result<SettledMonth, MonthError>
-    ensures { MatchResult result (λ s. MonthSettled (means instrument.now) owners (bytes_of packages.now) loads.old s.hours.items (of_told s.figures) (take owners s.roll) loads.new) (λ e. MonthRefused (means instrument.now) owners (bytes_of packages.now) loads.old e loads.new) }
+    ensures { MatchResult result (λ s. MonthSettled (I.means instrument.now) owners (bytes_of packages.now) loads.old s.hours.items (of_told s.figures) (take owners s.roll) loads.new) (λ e. MonthRefused (I.means instrument.now) owners (bytes_of packages.now) loads.old e loads.new) }
 {
     if owners > 128 {
         return Err(MonthError::Refused(Refusal {

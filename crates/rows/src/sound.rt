@@ -50,7 +50,7 @@ impl Sound for HoldingRow {
 /// Whether every entry passes its test. All are tested, even past one that fails: with no way out of the loop the
 /// compiler tests several shift factors at once.
 fn all_sound<R: Sound>(rows: &[R]) -> bool
-    ensures { result ≡ not (is_some (first_bad ok rows.now)) }
+    ensures { result ≡ not (is_some (first_bad R.ok rows.now)) }
 {
     let mut all = true;
     for row in rows {
@@ -61,7 +61,7 @@ fn all_sound<R: Sound>(rows: &[R]) -> bool
 
 /// The place of the first entry that fails its test, which is looked for only where one does.
 pub fn first_bad<R: Sound>(rows: &[R]) -> Option<usize>
-    ensures { result ≡ first_bad ok rows.now }
+    ensures { result ≡ first_bad R.ok rows.now }
 {
     if all_sound(rows) {
         return None;

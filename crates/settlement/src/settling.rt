@@ -37,8 +37,8 @@ fn settle_hour<'a, I: Instrument>(
     holdings: &[HoldingRow],
     out: &mut [u8],
 ) -> Result<usize, Refusal>
-    ensures answer { told_by (λ n. n) result ≡ length_of (within (length out.old) (statement_in (means instrument.now) (tables (plain_day day.now) constraints.now points.now factors.now holdings.now))) }
-    ensures buffer { out.new ≡ written (within (length out.old) (statement_in (means instrument.now) (tables (plain_day day.now) constraints.now points.now factors.now holdings.now))) out.old }
+    ensures answer { told_by (λ n. n) result ≡ length_of (within (length out.old) (statement_in (I.means instrument.now) (tables (plain_day day.now) constraints.now points.now factors.now holdings.now))) }
+    ensures buffer { out.new ≡ written (within (length out.old) (statement_in (I.means instrument.now) (tables (plain_day day.now) constraints.now points.now factors.now holdings.now))) out.old }
 {
     let mut roll = [CLEAR_ROLL; 128];
     let mut month = match open(&mut roll) {
@@ -73,8 +73,8 @@ pub fn settle_package<I: Instrument>(
     out: &mut [u8],
 ) -> Result<usize, Refusal>
     ensures inside { IfOk result (λ n. n ≤ length out.old) }
-    ensures answer { told_by (λ n. n) result ≡ length_of (within (length out.old) (settled (means instrument.now) bytes.now)) }
-    ensures buffer { out.new ≡ written (within (length out.old) (settled (means instrument.now) bytes.now)) out.old }
+    ensures answer { told_by (λ n. n) result ≡ length_of (within (length out.old) (settled (I.means instrument.now) bytes.now)) }
+    ensures buffer { out.new ≡ written (within (length out.old) (settled (I.means instrument.now) bytes.now)) out.old }
 {
     let mut constraints = [NO_CONSTRAINT; 32];
     let mut points = [NO_POINT; 256];

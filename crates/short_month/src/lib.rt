@@ -26,7 +26,7 @@ pub fn settle_two_hours<'a, I: Instrument>(
     instrument: &I,
     loads: &mut [LoadLine],
 ) -> Result<ClosedMonth, Refusal>
-    ensures { MatchResult result (λ m. TwoHours (hour (means instrument.now) (tables constraints.now points.now factors.now) holdings.now (plain_day first.now)) (hour (means instrument.now) (tables constraints.now points.now factors.now) holdings.now (plain_day second.now)) loads.old (of_closed m) loads.new) (λ _. loads.new ≡ loads.old) }
+    ensures { MatchResult result (λ m. TwoHours (hour (I.means instrument.now) (tables constraints.now points.now factors.now) holdings.now (plain_day first.now)) (hour (I.means instrument.now) (tables constraints.now points.now factors.now) holdings.now (plain_day second.now)) loads.old (of_closed m) loads.new) (λ _. loads.new ≡ loads.old) }
 {
     let mut roll = [CLEAR_ROLL; 128];
     let mut sheet = [CLEAR_HOUR; 128];

@@ -16,5 +16,5 @@ loop-i-preserved g c =
 pub returns : goal.returns
 returns g c = sym (bad_end g.R.Sound.ok _ _ c.loop-i-test.false) ∙ c.loop-i.invariant
 
-pub returns-then-all-sound : goal.returns-then-all-sound
-returns-then-all-sound g c = sound_none _ c.if-all-sound.ensures
+pub returns-then-all_sound : goal.returns-then-all_sound
+returns-then-all_sound g c = sound_none _ c.if-all_sound.ensures

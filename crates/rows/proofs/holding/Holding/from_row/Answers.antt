@@ -2,13 +2,13 @@ use Rattle.std.proofs.Common.{◌≡◌, true, false, rules}
 use Rattle.rows.specs.Ranges.{holding_ok}
 use Rattle.rows.proofs.holding.Holding.from_row.Goals as goal
 
-pub returns-in-default : goal.returns-in-default
+pub returns-in_default : goal.returns-in_default
 unfolding holding_ok
-returns-in-default c = let e : holding_ok c.args.row.now ≡ false = search rules in rw e
+returns-in_default c = let e : holding_ok c.args.row.now ≡ false = search rules in rw e
 
-pub returns-in-default-block-of : goal.returns-in-default-block-of
+pub returns-in_default-block_of : goal.returns-in_default-block_of
 unfolding holding_ok
-returns-in-default-block-of c = let e : holding_ok c.args.row.now ≡ false = search rules in rw e
+returns-in_default-block_of c = let e : holding_ok c.args.row.now ≡ false = search rules in rw e
 
 pub returns-then-row-lt1 : goal.returns-then-row-lt1
 unfolding holding_ok

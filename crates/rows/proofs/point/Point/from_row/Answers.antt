@@ -2,17 +2,17 @@ use Rattle.std.proofs.Common.{◌≡◌, true, false, rules}
 use Rattle.rows.specs.Ranges.{point_ok}
 use Rattle.rows.proofs.point.Point.from_row.Goals as goal
 
-pub returns-in-default : goal.returns-in-default
+pub returns-in_default : goal.returns-in_default
 unfolding point_ok
-returns-in-default c = let e : point_ok c.args.row.now ≡ false = search rules in rw e
+returns-in_default c = let e : point_ok c.args.row.now ≡ false = search rules in rw e
 
-pub returns-then-not-price-ok : goal.returns-then-not-price-ok
+pub returns-then-not-price_ok : goal.returns-then-not-price_ok
 unfolding point_ok
-returns-then-not-price-ok c = let e : point_ok c.args.row.now ≡ false = search rules in rw e
+returns-then-not-price_ok c = let e : point_ok c.args.row.now ≡ false = search rules in rw e
 
-pub returns-then-not-resource-prices-ok : goal.returns-then-not-resource-prices-ok
+pub returns-then-not-resource_prices_ok : goal.returns-then-not-resource_prices_ok
 unfolding point_ok
-returns-then-not-resource-prices-ok c = let e : point_ok c.args.row.now ≡ false = search rules in rw e
+returns-then-not-resource_prices_ok c = let e : point_ok c.args.row.now ≡ false = search rules in rw e
 
 pub returns : goal.returns
 unfolding point_ok
