@@ -14,7 +14,7 @@ pub trait TextLine {
 
 /// Appends a line for each entry of a table.
 pub fn push_lines<L: TextLine>(text: &mut String, entries: &[L]) -> fmt::Result
-    ensures { OnOk result (string_bytes text.new ≡ string_bytes text.old ++ lines_by line 0 entries.now) }
+    ensures { OnOk result (string_bytes text.new ≡ string_bytes text.old ++ lines_by L.line 0 entries.now) }
 {
     for (place, entry) in entries.iter().enumerate() {
         entry.push_line(place, text)?;

@@ -42,9 +42,9 @@ fn give<L: Line>(line: &mut L, sum: u64, seen: u64, total: u64, before: u64) -> 
     requires small { (sum ≤ limit) × (seen ≤ limit) }
     requires order { before ≤ sum * seen / total }
     requires whole { sum * seen / total ≤ sum }
-    requires room { (had line.old +ℤ pos sum) <ℤ pos (2 ^ 63) }
+    requires room { (L.had line.old +ℤ pos sum) <ℤ pos (2 ^ 63) }
     ensures upto { result ≡ sum * seen / total }
-    ensures given { line.new ≡ given line.old (sum * seen / total - before) }
+    ensures given { line.new ≡ L.given line.old (sum * seen / total - before) }
 {
     let upto = part(sum, seen, total);
     line.add(upto - before);
@@ -58,11 +58,11 @@ fn give<L: Line>(line: &mut L, sum: u64, seen: u64, total: u64, before: u64) -> 
 pub fn share<L: Line>(lines: &mut [L], sum: u64, total: u64)
     requires small { (sum ≤ limit) × (total ≤ limit) }
     requires zero { total ≡ 0 → sum ≡ 0 }
-    requires weighed { sum_by weight lines.old ≡ total }
-    requires room { All (λ x. (had x +ℤ pos sum) <ℤ pos (2 ^ 63)) lines.old }
-    ensures shared { (none : L) (i : ℕ) → i < length lines.old → slice_index_or lines.new i none ≡ given (slice_index_or lines.old i none) (share_of sum total (weights_of weight lines.old none) i) }
+    requires weighed { sum_by L.weight lines.old ≡ total }
+    requires room { All (λ x. (L.had x +ℤ pos sum) <ℤ pos (2 ^ 63)) lines.old }
+    ensures shared { (none : L) (i : ℕ) → i < length lines.old → slice_index_or lines.new i none ≡ L.given (slice_index_or lines.old i none) (share_of sum total (weights_of L.weight lines.old none) i) }
     ensures kept { length lines.new ≡ length lines.old }
-    ensures fair { (none : L) → Fair sum total (weights_of weight lines.old none) (length lines.old) }
+    ensures fair { (none : L) → Fair sum total (weights_of L.weight lines.old none) (length lines.old) }
 {
     let mut seen: u64 = 0;
     let mut done: u64 = 0;

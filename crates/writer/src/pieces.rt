@@ -13,9 +13,9 @@ use rows::PointRow;
 
 /// The records of rows, from a place on.
 pub(crate) fn put_records<R: Recorded>(rows: &[R], out: &mut [u8], start: usize) -> usize
-    requires { start + length (records_of letter fields rows.now) ≤ length out.old }
-    ensures wrote { Wrote out.old start (records_of letter fields rows.now) result out.new }
-    ensures fits { All fits rows.now }
+    requires { start + length (records_of R.letter R.fields rows.now) ≤ length out.old }
+    ensures wrote { Wrote out.old start (records_of R.letter R.fields rows.now) result out.new }
+    ensures fits { All R.fits rows.now }
 {
     let mut at = start;
     for row in rows {

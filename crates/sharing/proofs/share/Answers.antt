@@ -7,8 +7,8 @@ use Rattle.sharing.proofs.Parts.{part_mono, part_le, upTo-all}
 use Rattle.sharing.proofs.Steps.{share_after, sharedFrom, all-step, drop-after, shared-more, shared-all, shared-out, length-shared}
 use Rattle.sharing.proofs.share.Goals as goal
 
-pub overflow-add-seen : goal.overflow-add-seen
-overflow-add-seen g c =
+pub overflow_add-seen : goal.overflow_add-seen
+overflow_add-seen g c =
     omega (arith, c.weighs-seen.ensures, sum_by-drop_more g.L.Line.weight c.loop-line.lines c.loop-line.line-index c.line-item.result (omega arith), c.loop-line.invariant.1, c.requires.small)
 
 pub give-done-requires : goal.give-done-requires

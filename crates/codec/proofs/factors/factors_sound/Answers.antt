@@ -8,10 +8,10 @@ use Rattle.codec.proofs.factors.factors_sound.Goals as goal
 
 pub loop-left-preserved : goal.loop-left-preserved
 loop-left-preserved c =
-    let f : SFits w16 c.factor-of.result = search rules in
+    let f : SFits w16 c.factor_of.result = search rules in
     let s = factors_step c.loop-left.left.now (search rules) in
-    let z : to_z w16 (of_z w16 c.factor-of.result) ≡ int2 (get_or c.loop-left.left.now 0 0) (get_or c.loop-left.left.now 1 0) =
-    to_z-of_z w16 c.factor-of.result f ∙ c.factor-of.ensures in
+    let z : to_z w16 (of_z w16 c.factor_of.result) ≡ int2 (get_or c.loop-left.left.now 0 0) (get_or c.loop-left.left.now 1 0) =
+    to_z-of_z w16 c.factor_of.result f ∙ c.factor_of.ensures in
     let h : factor_ok (int2 (get_or c.loop-left.left.now 0 0) (get_or c.loop-left.left.now 1 0)) ≡ c.sound-all.result = ap factor_ok (sym z) ∙ sym c.sound-all.ensures in
     more_sound c.loop-left.all c.sound-all.result (factors_at c.loop-left.left.now) _ (factors_at (take (length c.loop-left.left.now - 2) (drop 2 c.loop-left.left.now))) _ s h c.loop-left.invariant
 

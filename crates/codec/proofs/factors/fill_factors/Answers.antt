@@ -20,12 +20,12 @@ loop-left-init c =
 pub loop-left-preserved : goal.loop-left-preserved
 loop-left-preserved c =
     let i = c.loop-left.invariant in
-    let f : SFits w16 c.factor-of.result = search rules in
-    let z : to_z w16 (of_z w16 c.factor-of.result) ≡ int2 (get_or c.loop-left.left.now 0 0) (get_or c.loop-left.left.now 1 0) =
-    to_z-of_z w16 c.factor-of.result f ∙ c.factor-of.ensures in
-    let s : factors_at c.loop-left.left.now ≡ to_z w16 (of_z w16 c.factor-of.result) ∷ factors_at (take (length c.loop-left.left.now - 2) (drop 2 c.loop-left.left.now)) =
+    let f : SFits w16 c.factor_of.result = search rules in
+    let z : to_z w16 (of_z w16 c.factor_of.result) ≡ int2 (get_or c.loop-left.left.now 0 0) (get_or c.loop-left.left.now 1 0) =
+    to_z-of_z w16 c.factor_of.result f ∙ c.factor_of.ensures in
+    let s : factors_at c.loop-left.left.now ≡ to_z w16 (of_z w16 c.factor_of.result) ∷ factors_at (take (length c.loop-left.left.now - 2) (drop 2 c.loop-left.left.now)) =
     factors_step c.loop-left.left.now (search rules) ∙ ap (λ y. y ∷ factors_at (take (length c.loop-left.left.now - 2) (drop 2 c.loop-left.left.now))) (sym z) in
-    stored c.loop-left.table c.args.table.now c.loop-left.n (to_z w16 (of_z w16 c.factor-of.result)) _ _ _ s i.0 i.1 i.2
+    stored c.loop-left.table c.args.table.now c.loop-left.n (to_z w16 (of_z w16 c.factor_of.result)) _ _ _ s i.0 i.1 i.2
 
 pub returns : goal.returns
 returns c =

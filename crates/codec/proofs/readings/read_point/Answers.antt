@@ -16,17 +16,17 @@ by_factors bs row b r p f =
 
 pub returns-in-Ok : goal.returns-in-Ok
 returns-in-Ok c =
-    let l : length c.args.fields.now ≡ 13 + 2 * c.args.constraints = eqb-true _ _ (sym c.if-not-point-sized.ensures) in
+    let l : length c.args.fields.now ≡ 13 + 2 * c.args.constraints = eqb-true _ _ (sym c.if-not-point_sized.ensures) in
     let r : c.in-Some.row ≡ point_at c.args.fields.now = search rules in
     let p : point_ok c.in-Some.row ≡ true = search rules in
-    let o : placed_ok (placed_at c.args.fields.now) ≡ true = by_factors c.args.fields.now c.in-Some.row true r p c.if-factors-sound.ensures in
+    let o : placed_ok (placed_at c.args.fields.now) ≡ true = by_factors c.args.fields.now c.in-Some.row true r p c.if-factors_sound.ensures in
     let R : PointRow → Result PointRow Told = λ x. Ok x in
     ap R r ∙ sym (ap (answered (λ x. x.point)) (taken c.args.place _ placed_ok placed_at c.args.fields.now _ l refl o))
 
 pub returns-in-Ok-2 : goal.returns-in-Ok-2
 returns-in-Ok-2 c =
-    let l : length c.args.fields.now ≡ 13 + 2 * c.args.constraints = eqb-true _ _ (sym c.if-not-point-sized.ensures) in
+    let l : length c.args.fields.now ≡ 13 + 2 * c.args.constraints = eqb-true _ _ (sym c.if-not-point_sized.ensures) in
     let r : c.in-Some.row ≡ point_at c.args.fields.now = search rules in
     let p : point_ok c.in-Some.row ≡ true = search rules in
-    let o : placed_ok (placed_at c.args.fields.now) ≡ false = by_factors c.args.fields.now c.in-Some.row false r p c.if-factors-sound.ensures in
+    let o : placed_ok (placed_at c.args.fields.now) ≡ false = by_factors c.args.fields.now c.in-Some.row false r p c.if-factors_sound.ensures in
     sym (ap (answered (λ x. x.point)) (out_of_range c.args.place _ placed_ok placed_at c.args.fields.now l o))

@@ -13,7 +13,7 @@ use Rattle.payoff.specs.Passed.{Passed, passed, row_fits, factors_le}
 use Rattle.payoff.specs.Terms.{factor_place, sum_to_more, round_le}
 use Rattle.payoff.specs.Laws.{placed}
 use Rattle.payoff.proofs.deration.deration_price.Goals as goal
-use Rattle.payoff.proofs.deration.deration_price.Goals.{After-deration-term-sum, After-deration-cents}
+use Rattle.payoff.proofs.deration.deration_price.Goals.{After-deration_term-sum, After-deration_cents}
 
 -- the rows of the two points in the table of shift factors
 record Rows (v : TestedTables) (h : Holding) : Type 0 where
@@ -45,32 +45,32 @@ factor_ok_lem v w i c a b = w.factor _ (factor_place (tables_of v) w i c a b)
 read : (z : _) → factor_ok z ≡ true → to_z w16 (of_z w16 z) ≡ z
 read z e = let r = factor_range z e in omega (arith, ints)
 
-pub overflow-mul-source : goal.overflow-mul-source
-overflow-mul-source c = let r = rows c.args.hour.now c.args.holding.now c.requires in omega arith
+pub overflow_mul-source : goal.overflow_mul-source
+overflow_mul-source c = let r = rows c.args.hour.now c.args.holding.now c.requires in omega arith
 
-pub overflow-mul-sink : goal.overflow-mul-sink
-overflow-mul-sink c = let r = rows c.args.hour.now c.args.holding.now c.requires in omega arith
+pub overflow_mul-sink : goal.overflow_mul-sink
+overflow_mul-sink c = let r = rows c.args.hour.now c.args.holding.now c.requires in omega arith
 
-pub overflow-add-source : goal.overflow-add-source
-overflow-add-source c = let r = rows c.args.hour.now c.args.holding.now c.requires in omega arith
+pub overflow_add-source : goal.overflow_add-source
+overflow_add-source c = let r = rows c.args.hour.now c.args.holding.now c.requires in omega arith
 
-pub offset-bounds-hour-source : goal.offset-bounds-hour-source
-offset-bounds-hour-source c = let r = rows c.args.hour.now c.args.holding.now c.requires in omega arith
+pub offset_bounds-hour-source : goal.offset_bounds-hour-source
+offset_bounds-hour-source c = let r = rows c.args.hour.now c.args.holding.now c.requires in omega arith
 
 pub bounds-hour-source : goal.bounds-hour-source
 bounds-hour-source c = let r = rows c.args.hour.now c.args.holding.now c.requires in omega arith
 
-pub overflow-add-sink : goal.overflow-add-sink
-overflow-add-sink c = let r = rows c.args.hour.now c.args.holding.now c.requires in omega arith
+pub overflow_add-sink : goal.overflow_add-sink
+overflow_add-sink c = let r = rows c.args.hour.now c.args.holding.now c.requires in omega arith
 
-pub offset-bounds-hour-sink : goal.offset-bounds-hour-sink
-offset-bounds-hour-sink c = let r = rows c.args.hour.now c.args.holding.now c.requires in omega arith
+pub offset_bounds-hour-sink : goal.offset_bounds-hour-sink
+offset_bounds-hour-sink c = let r = rows c.args.hour.now c.args.holding.now c.requires in omega arith
 
 pub bounds-hour-sink : goal.bounds-hour-sink
 bounds-hour-sink c = let r = rows c.args.hour.now c.args.holding.now c.requires in omega arith
 
-pub deration-term-sum-requires : goal.deration-term-sum-requires
-deration-term-sum-requires c =
+pub deration_term-sum-requires : goal.deration_term-sum-requires
+deration_term-sum-requires c =
     let v = c.args.hour.now in
     let r = rows v c.args.holding.now c.requires in
     let a = factor_ok_lem v r.tested c.args.holding.now.source c.loop-c.c r.source c.loop-c-test.true in
@@ -82,38 +82,38 @@ deration-term-sum-requires c =
     }
 
 -- what a turn adds is the constraint's term
-added : (c : After-deration-term-sum) → c.deration-term-sum.result ≡ deration_term (tables_of c.args.hour.now) c.args.holding.now.source c.args.holding.now.sink c.loop-c.c
+added : (c : After-deration_term-sum) → c.deration_term-sum.result ≡ deration_term (tables_of c.args.hour.now) c.args.holding.now.source c.args.holding.now.sink c.loop-c.c
 added c =
     let v = c.args.hour.now in
     let r = rows v c.args.holding.now c.requires in
     let a = factor_ok_lem v r.tested c.args.holding.now.source c.loop-c.c r.source c.loop-c-test.true in
     let b = factor_ok_lem v r.tested c.args.holding.now.sink c.loop-c.c r.sink c.loop-c-test.true in
-    rw (read _ a, read _ b) at c.deration-term-sum.ensures.value
+    rw (read _ a, read _ b) at c.deration_term-sum.ensures.value
 
-pub overflow-add-sum : goal.overflow-add-sum
-overflow-add-sum c = let r = rows c.args.hour.now c.args.holding.now c.requires in omega (arith, r.tested.constraints)
+pub overflow_add-sum : goal.overflow_add-sum
+overflow_add-sum c = let r = rows c.args.hour.now c.args.holding.now c.requires in omega (arith, r.tested.constraints)
 
 pub loop-c-preserved : goal.loop-c-preserved
 loop-c-preserved c =
     let m = sum_to_more (deration_term (tables_of c.args.hour.now) c.args.holding.now.source c.args.holding.now.sink) c.loop-c.c in
     (omega (arith, added c), omega arith)
 
-small : (c : After-deration-cents) → c.deration-cents.result ≤ 64000000
+small : (c : After-deration_cents) → c.deration_cents.result ≤ 64000000
 small c =
     let r = rows c.args.hour.now c.args.holding.now c.requires in
     let s : c.loop-c.sum ≤ 6400000000000000 = omega (arith, r.tested.constraints) in
     omega (arith, round_le c.loop-c.sum s)
 
-pub overflow-cast-result : goal.overflow-cast-result
-overflow-cast-result c = omega (arith, ints, small c)
+pub overflow_cast-result : goal.overflow_cast-result
+overflow_cast-result c = omega (arith, ints, small c)
 
-pub invariant-of-result : goal.invariant-of-result
-invariant-of-result c = (omega (arith, ints, small c), (omega (arith, ints, small c), tt))
+pub invariant_of-result : goal.invariant_of-result
+invariant_of-result c = (omega (arith, ints, small c), (omega (arith, ints, small c), tt))
 
 pub returns : goal.returns
 returns c =
-    let s = small (goal.at.returns c).After-deration-cents in
+    let s = small (goal.at.returns c).After-deration_cents in
     let n : c.loop-c.c ≡ length (tables_of c.args.hour.now).constraints = omega arith in
-    let e : to_z w32 c.deration-cents.result ≡ pos c.deration-cents.result = omega (arith, ints) in
+    let e : to_z w32 c.deration_cents.result ≡ pos c.deration_cents.result = omega (arith, ints) in
     let f = sum_to (deration_term (tables_of c.args.hour.now) c.args.holding.now.source c.args.holding.now.sink) in
-    e ∙ ap (λ k. pos k) (c.deration-cents.ensures ∙ ap round_deration (c.loop-c.invariant.0 ∙ ap f n))
+    e ∙ ap (λ k. pos k) (c.deration_cents.ensures ∙ ap round_deration (c.loop-c.invariant.0 ∙ ap f n))

@@ -6,11 +6,11 @@ use Rattle.payoff.specs.View.{tables_of, plain_pair}
 use Rattle.payoff.specs.Laws.{found}
 use Rattle.payoff.proofs.plain.figures_at.Goals as goal
 
-pub deration-price-requires : goal.deration-price-requires
-deration-price-requires c = (found (tables_of c.args.hour.now) (plain_holding c.args.holding.now) (plain_pair c.args.pair.now) c.requires).pair
+pub deration_price-requires : goal.deration_price-requires
+deration_price-requires c = (found (tables_of c.args.hour.now) (plain_holding c.args.holding.now) (plain_pair c.args.pair.now) c.requires).pair
 
 pub returns : goal.returns
 returns c =
     let f = found (tables_of c.args.hour.now) (plain_holding c.args.holding.now) (plain_pair c.args.pair.now) c.requires in
-    let l = c.floor-price.ensures ∙ ap (λ (e : Ends). floor_price_of e c.args.target.value) f.ends in
-    rw (c.quantity.ensures, c.deration-price.ensures, l)
+    let l = c.floor_price.ensures ∙ ap (λ (e : Ends). floor_price_of e c.args.target.value) f.ends in
+    rw (c.quantity.ensures, c.deration_price.ensures, l)

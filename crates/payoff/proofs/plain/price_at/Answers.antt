@@ -17,20 +17,20 @@ floor_is v h p target floor s e = e ∙ ap (λ (x : Ends). floor_price_of x targ
 
 pub returns-then-floor-target : goal.returns-then-floor-target
 returns-then-floor-target c =
-    let l = floor_is c.args.hour.now c.args.holding.now c.args.pair.now c.args.target.value _ c.requires c.floor-price-floor.ensures in
-    let same : c.floor-price-floor.result.value ≡ c.args.target.value = omega (arith, ints) in
+    let l = floor_is c.args.hour.now c.args.holding.now c.args.pair.now c.args.target.value _ c.requires c.floor_price-floor.ensures in
+    let same : c.floor_price-floor.result.value ≡ c.args.target.value = omega (arith, ints) in
     floor_pays c.args.target.value (deration_price_of (tables_of c.args.hour.now) (plain_holding c.args.holding.now)) _ (omega (arith, ints)) (sym l ∙ same)
 
-pub deration-price-requires : goal.deration-price-requires
-deration-price-requires c = (found (tables_of c.args.hour.now) (plain_holding c.args.holding.now) (plain_pair c.args.pair.now) c.requires).pair
+pub deration_price-requires : goal.deration_price-requires
+deration_price-requires c = (found (tables_of c.args.hour.now) (plain_holding c.args.holding.now) (plain_pair c.args.pair.now) c.requires).pair
 
-pub payment-price-requires : goal.payment-price-requires
-payment-price-requires c = record {
-  under = rw c.floor-price-floor.ensures (floor_at_most (plain_pair c.args.pair.now) c.args.target.value);
-  deration = rw c.deration-price.ensures (omega (arith, ints));
+pub payment_price-requires : goal.payment_price-requires
+payment_price-requires c = record {
+  under = rw c.floor_price-floor.ensures (floor_at_most (plain_pair c.args.pair.now) c.args.target.value);
+  deration = rw c.deration_price.ensures (omega (arith, ints));
 }
 
 pub returns : goal.returns
 returns c =
-    let l = floor_is c.args.hour.now c.args.holding.now c.args.pair.now c.args.target.value _ c.requires c.floor-price-floor.ensures in
-    rw (c.payment-price.ensures, c.deration-price.ensures, l)
+    let l = floor_is c.args.hour.now c.args.holding.now c.args.pair.now c.args.target.value _ c.requires c.floor_price-floor.ensures in
+    rw (c.payment_price.ensures, c.deration_price.ensures, l)

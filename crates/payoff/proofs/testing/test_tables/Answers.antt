@@ -3,6 +3,6 @@ use Rattle.payoff.specs.Tables.{sizes_ok, tables_test}
 use Rattle.payoff.proofs.testing.test_tables.Goals as goal
 
 -- the empty hour passes
-pub invariant-of-result-in-Some : goal.invariant-of-result-in-Some
+pub invariant_of-result-in-Some : goal.invariant_of-result-in-Some
 unfolding tables_test sizes_ok
-invariant-of-result-in-Some c = (refl, tt)
+invariant_of-result-in-Some c = (refl, tt)
