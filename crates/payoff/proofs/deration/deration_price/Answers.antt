@@ -108,7 +108,7 @@ pub overflow_cast-result : goal.overflow_cast-result
 overflow_cast-result c = omega (arith, ints, small c)
 
 pub invariant_of-result : goal.invariant_of-result
-invariant_of-result c = (omega (arith, ints, small c), (omega (arith, ints, small c), tt))
+invariant_of-result c = record { low = omega (arith, ints, small c); high = omega (arith, ints, small c) }
 
 pub returns : goal.returns
 returns c =

@@ -8,11 +8,11 @@ pub loop-link-init : goal.loop-link-init
 loop-link-init c =
     let hs = c.args.holdings.now in
     let place = c.args.place in
-    to_last hs place c.requires.inside.0 c.args.bucket place _ (walk_start hs place c.requires.inside.0) c.requires.own_val.0 (c.requires.chained.begins c.args.bucket c.requires.own_val.1)
+    to_last hs place c.requires.inside.0 c.args.bucket place _ (walk_start hs place c.requires.inside.0) c.requires.own.0 (c.requires.chained.begins c.args.bucket c.requires.own.1)
 
-pub returns-then-is-same-right : goal.returns-then-is-same-right
-returns-then-is-same-right c =
-    walk-found c.args.holdings.now c.args.place c.requires.inside.0 c.loop-link.link _ (omega arith) c.loop-link.invariant.walk (sym c.if-is-same-right.ensures)
+pub returns-then-is_same_right : goal.returns-then-is_same_right
+returns-then-is_same_right c =
+    walk-found c.args.holdings.now c.args.place c.requires.inside.0 c.loop-link.link _ (omega arith) c.loop-link.invariant.walk (sym c.if-is_same_right.ensures)
 
 pub loop-link-smaller : goal.loop-link-smaller
 loop-link-smaller c =
@@ -28,4 +28,4 @@ loop-link-preserved c =
     let k = c.loop-link.link - 1 in
     let is : c.loop-link.link ≡ suc k = omega arith in
     let before : k < place = omega (arith, c.loop-link.invariant.walk.within) in
-    to_last hs place c.requires.inside.0 (bucket_at hs k) k _ (walk-on hs place c.requires.inside.0 c.loop-link.link k is c.loop-link.invariant.walk (sym c.if-is-same-right.ensures)) (c.loop-link.invariant.there k is) (c.requires.chained.leads k before)
+    to_last hs place c.requires.inside.0 (bucket_at hs k) k _ (walk-on hs place c.requires.inside.0 c.loop-link.link k is c.loop-link.invariant.walk (sym c.if-is_same_right.ensures)) (c.loop-link.invariant.there k is) (c.requires.chained.leads k before)

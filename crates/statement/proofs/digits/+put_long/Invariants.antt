@@ -1,4 +1,4 @@
 use Rattle.statement.proofs.digits.+put_long.Given as goal
 
-abbrev pub decreases-put-long : goal.decreases-put-long
-decreases-put-long l = l.n
+abbrev pub decreases-put_long : goal.decreases-put_long
+decreases-put_long l = l.n

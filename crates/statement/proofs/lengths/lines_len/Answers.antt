@@ -5,7 +5,7 @@ use Rattle.statement.proofs.lengths.lines_len.Goals as goal
 pub loop-i-preserved : goal.loop-i-preserved
 loop-i-preserved c =
     let n = next-long c.args.holdings.now c.args.amounts.now c.loop-i.i c.loop-i-test.true c.requires in
-    (omega (arith, c.loop-i.invariant.0, c.holding-len-total.ensures.value), omega (arith, c.loop-i.invariant.1, c.holding-len-total.ensures.bound))
+    (omega (arith, c.loop-i.invariant.0, c.holding_len-total.ensures.value), omega (arith, c.loop-i.invariant.1, c.holding_len-total.ensures.bound))
 
 pub returns : goal.returns
 returns c =

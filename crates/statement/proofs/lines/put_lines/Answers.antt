@@ -6,8 +6,8 @@ use Rattle.statement.specs.Room.{Room}
 use Rattle.statement.proofs.Longs.{blank, sizes_inv, lines_all, line-room, line_more}
 use Rattle.statement.proofs.lines.put_lines.Goals as goal
 
-pub put-holding-at-requires : goal.put-holding-at-requires
-put-holding-at-requires c =
+pub put_holding-at-requires : goal.put_holding-at-requires
+put_holding-at-requires c =
     let f : SFits w64 (get_or c.args.amounts.now c.loop-i.i (pos 0)) = search rules in
     record {
       number = omega (arith, sizes_inv (length c.args.holdings.now) (length c.args.amounts.now) c.requires.sizes, c.loop-i-test.true);
@@ -17,9 +17,9 @@ put-holding-at-requires c =
 pub loop-i-preserved : goal.loop-i-preserved
 loop-i-preserved c =
     let f : SFits w64 (get_or c.args.amounts.now c.loop-i.i (pos 0)) = search rules in
-    let w = subst (λ (a : ℤ). Wrote c.loop-i.out c.loop-i.at (holding_line c.loop-i.i (get_or c.args.holdings.now c.loop-i.i blank).owner a) c.put-holding-at.result c.put-holding-at.new.out) (to_z-of_z w64 (get_or c.args.amounts.now c.loop-i.i (pos 0)) f) c.put-holding-at.ensures.wrote in (
-      line_more c.args.holdings.now c.args.amounts.now c.loop-i.i c.loop-i-test.true c.requires.sizes c.args.start c.loop-i.at c.put-holding-at.result c.args.out.now c.loop-i.out c.put-holding-at.new.out c.loop-i.invariant.0 w,
-      omega (arith, c.loop-i.invariant.1, c.put-holding-at.ensures.bound),
+    let w = subst (λ (a : ℤ). Wrote c.loop-i.out c.loop-i.at (holding_line c.loop-i.i (get_or c.args.holdings.now c.loop-i.i blank).owner a) c.put_holding-at.result c.put_holding-at.new.out) (to_z-of_z w64 (get_or c.args.amounts.now c.loop-i.i (pos 0)) f) c.put_holding-at.ensures.wrote in (
+      line_more c.args.holdings.now c.args.amounts.now c.loop-i.i c.loop-i-test.true c.requires.sizes c.args.start c.loop-i.at c.put_holding-at.result c.args.out.now c.loop-i.out c.put_holding-at.new.out c.loop-i.invariant.0 w,
+      omega (arith, c.loop-i.invariant.1, c.put_holding-at.ensures.bound),
     )
 
 pub returns : goal.returns

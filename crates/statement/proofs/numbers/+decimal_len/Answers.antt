@@ -8,6 +8,6 @@ returns-then-n-lt10 t c = record { value = sym (ap length (decimal_digit c.args.
 pub returns-else-n-lt10 : goal.returns-else-n-lt10
 returns-else-n-lt10 t c =
     let s = ap length (decimal_step c.args.n c.if-n-lt10.false (omega arith)) in
-    let v : c.decimal-len.result + 1 ≡ length (decimal c.args.n) =
-    omega (arith, s, length-append (decimal (c.args.n / 10)) ((48 + c.args.n % 10) ∷ []), c.decimal-len.ensures.value) in
+    let v : c.decimal_len.result + 1 ≡ length (decimal c.args.n) =
+    omega (arith, s, length-append (decimal (c.args.n / 10)) ((48 + c.args.n % 10) ∷ []), c.decimal_len.ensures.value) in
     record { value = v; bound = omega (arith, v, length-decimal-le 20 c.args.n (omega arith) (omega arith) (omega arith)) }

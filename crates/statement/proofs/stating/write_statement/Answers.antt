@@ -34,10 +34,10 @@ module _ (n : ℕ) (hs : List HoldingRow) (zs : List ℤ) (f : HourFigures) (roo
   unfolding statement_of
   both was mid out at to w v = joined was mid out 0 at to (holding_lines 0 hs zs) (hour_line_of n f) w v
 
-pub returns-then-not-has-room : goal.returns-then-not-has-room
-returns-then-not-has-room c =
-    let s : sizes_ok (length c.args.holdings.now) (length c.args.amounts.now) ≡ true = sym c.if-not-sizes-ok.ensures in
-    let e = short c.args.day.now.hour c.args.holdings.now c.args.amounts.now c.args.figures.now (length c.args.out.now) s (omega (arith, c.hour-len-hour-line.ensures.value, c.if-not-has-room.ensures.short refl)) in
+pub returns-then-not-has_room : goal.returns-then-not-has_room
+returns-then-not-has_room c =
+    let s : sizes_ok (length c.args.holdings.now) (length c.args.amounts.now) ≡ true = sym c.if-not-sizes_ok.ensures in
+    let e = short c.args.day.now.hour c.args.holdings.now c.args.amounts.now c.args.figures.now (length c.args.out.now) s (omega (arith, c.hour_len-hour_line.ensures.value, c.if-not-has_room.ensures.short refl)) in
     record { answer = ap length_of (sym e); buffer = ap (λ r. written r c.args.out.now) (sym e) }
 
 -- the room for the lines, where there is room for the hour's line after them
@@ -45,26 +45,26 @@ without : (room longest long hour : ℕ) → Room room (longest + hour) (long + 
 without room longest long hour (inl p) = inl (omega arith)
 without room longest long hour (inr p) = inr (omega arith)
 
-pub put-lines-at-requires : goal.put-lines-at-requires
-put-lines-at-requires c =
+pub put_lines-at-requires : goal.put_lines-at-requires
+put_lines-at-requires c =
     record {
-      sizes = sym c.if-not-sizes-ok.ensures;
-      room = without (length c.args.out.now) (53 * length c.args.holdings.now) (length (holding_lines 0 c.args.holdings.now c.args.amounts.now)) c.hour-len-hour-line.result (c.if-not-has-room.ensures.fits refl);
+      sizes = sym c.if-not-sizes_ok.ensures;
+      room = without (length c.args.out.now) (53 * length c.args.holdings.now) (length (holding_lines 0 c.args.holdings.now c.args.amounts.now)) c.hour_len-hour_line.result (c.if-not-has_room.ensures.fits refl);
     }
 
-pub put-hour-requires : goal.put-hour-requires
-put-hour-requires c =
-    let w = c.put-lines-at.ensures.wrote in
-    let e = has_room (length c.args.out.now) (53 * length c.args.holdings.now + c.hour-len-hour-line.result) (length (holding_lines 0 c.args.holdings.now c.args.amounts.now) + c.hour-len-hour-line.result) (omega (arith, w.end, c.put-lines-at.ensures.bound)) (c.if-not-has-room.ensures.fits refl) in
-    omega (arith, w.end, w.len, c.hour-len-hour-line.ensures.value)
+pub put_hour-requires : goal.put_hour-requires
+put_hour-requires c =
+    let w = c.put_lines-at.ensures.wrote in
+    let e = has_room (length c.args.out.now) (53 * length c.args.holdings.now + c.hour_len-hour_line.result) (length (holding_lines 0 c.args.holdings.now c.args.amounts.now) + c.hour_len-hour_line.result) (omega (arith, w.end, c.put_lines-at.ensures.bound)) (c.if-not-has_room.ensures.fits refl) in
+    omega (arith, w.end, w.len, c.hour_len-hour_line.ensures.value)
 
 pub returns : goal.returns
 returns c =
-    let s : sizes_ok (length c.args.holdings.now) (length c.args.amounts.now) ≡ true = sym c.if-not-sizes-ok.ensures in
-    let v = c.put-lines-at.ensures.wrote in
-    let m = has_room (length c.args.out.now) (53 * length c.args.holdings.now + c.hour-len-hour-line.result) (length (holding_lines 0 c.args.holdings.now c.args.amounts.now) + c.hour-len-hour-line.result) (omega (arith, v.end, c.put-lines-at.ensures.bound)) (c.if-not-has-room.ensures.fits refl) in
-    let e = good c.args.day.now.hour c.args.holdings.now c.args.amounts.now c.args.figures.now (length c.args.out.now) s (omega (arith, c.hour-len-hour-line.ensures.value)) in
-    let w = whole c.args.out.now (statement_of c.args.day.now.hour c.args.holdings.now c.args.amounts.now c.args.figures.now) c.put-hour.result c.put-hour.new.out (both c.args.day.now.hour c.args.holdings.now c.args.amounts.now c.args.figures.now (length c.args.out.now) s c.args.out.now c.put-lines-at.new.out c.put-hour.new.out c.put-lines-at.result c.put-hour.result v c.put-hour.ensures) in
+    let s : sizes_ok (length c.args.holdings.now) (length c.args.amounts.now) ≡ true = sym c.if-not-sizes_ok.ensures in
+    let v = c.put_lines-at.ensures.wrote in
+    let m = has_room (length c.args.out.now) (53 * length c.args.holdings.now + c.hour_len-hour_line.result) (length (holding_lines 0 c.args.holdings.now c.args.amounts.now) + c.hour_len-hour_line.result) (omega (arith, v.end, c.put_lines-at.ensures.bound)) (c.if-not-has_room.ensures.fits refl) in
+    let e = good c.args.day.now.hour c.args.holdings.now c.args.amounts.now c.args.figures.now (length c.args.out.now) s (omega (arith, c.hour_len-hour_line.ensures.value)) in
+    let w = whole c.args.out.now (statement_of c.args.day.now.hour c.args.holdings.now c.args.amounts.now c.args.figures.now) c.put_hour.result c.put_hour.new.out (both c.args.day.now.hour c.args.holdings.now c.args.amounts.now c.args.figures.now (length c.args.out.now) s c.args.out.now c.put_lines-at.new.out c.put_hour.new.out c.put_lines-at.result c.put_hour.result v c.put_hour.ensures) in
     record {
       answer = ap (λ (m : ℕ). Ok m) w.0 ∙ ap length_of (sym e);
       buffer = w.1 ∙ ap (λ r. written r c.args.out.now) (sym e);
