@@ -9,8 +9,8 @@ use Rattle.packages.specs.Filling.{IsPlaced}
 use Rattle.packages.proofs.Rowing.{spelling, spelling_records, spelling_rows, spelling_same, spelling_length, constraints_read, holdings_read, points_read, points_placed, passed, Laid, laid_by}
 use Rattle.packages.proofs.reading.fill_tables.Goals as goal
 
-pub fill-rows-requires : goal.fill-rows-requires
-fill-rows-requires c =
+pub fill_rows-requires : goal.fill_rows-requires
+fill_rows-requires c =
     c.requires ∙ ap (λ m. m * length c.args.constraints.now) (sym c.fill-2.auto.table) ∙ ap (λ m. length c.fill-2.new.table * m) (sym c.fill.auto.table)
 
 pub returns : goal.returns
@@ -26,12 +26,12 @@ returns c = λ t e nc np nf nh.
     let sh : l.hour.holdings ≡ t.holdings = ap (λ (x : Tables). x.holdings) l.same in
     let lp : length (points_of l.hour.points) ≡ length l.hour.points = length-map l.hour.points (λ x. x.point) in
     let r0 : c.new-reader.result.rest.now ≡ drop 5 c.args.bytes.now = c.new-reader.ensures.0 in
-    let r1 = passed c.next-fields.result c.new-reader.result.rest.now c.next-fields.new.reader.rest.now c.next-fields.ensures 68 _ _ (ap frame_of r0 ∙ l.rest) in
+    let r1 = passed c.next_fields.result c.new-reader.result.rest.now c.next_fields.new.reader.rest.now c.next_fields.ensures 68 _ _ (ap frame_of r0 ∙ l.rest) in
     let q1 = c.fill.ensures 67 (spelling encode_constraint (λ x. x) l.hour.constraints) (P ++ H) (r1 ∙ ap (λ ys. ys ++ (P ++ H)) (sym (spelling_records 67 encode_constraint (λ x. x) l.hour.constraints))) (spelling_length encode_constraint (λ x. x) l.hour.constraints ∙ ap length sc ∙ nc) (constraints_read l.hour.constraints g.constraints) in
     let q2 = c.fill-2.ensures 80 (spelling encode_placed (λ x. x.point) l.hour.points) H (q1.1 ∙ ap (λ ys. ys ++ H) (sym (spelling_records 80 encode_placed (λ x. x.point) l.hour.points))) (spelling_length encode_placed (λ x. x.point) l.hour.points ∙ sym lp ∙ ap length sp ∙ np) (points_read (length l.hour.constraints) l.hour.points g.few_constraints g.points) in
     let k1 : length c.fill.new.table ≡ length l.hour.constraints = c.fill.auto.table ∙ sym nc ∙ ap length (sym sc) in
     let k2 : length l.hour.points ≡ length c.fill-2.new.table = sym lp ∙ ap length sp ∙ np ∙ sym c.fill-2.auto.table in
     let pl = subst (λ (m : ℕ). All (IsPlaced m) l.hour.points) (sym k1) (points_placed (length l.hour.constraints) l.hour.points g.few_constraints g.points) in
-    let q3 = c.fill-rows.ensures l.hour.points H q1.1 k2 pl in
+    let q3 = c.fill_rows.ensures l.hour.points H q1.1 k2 pl in
     let q4 = c.fill-3.ensures 72 (spelling encode_holding (λ x. x) l.hour.holdings) [] (q2.1 ∙ sym (append-nil H) ∙ ap (λ ys. ys ++ []) (sym (spelling_records 72 encode_holding (λ x. x) l.hour.holdings))) (spelling_length encode_holding (λ x. x) l.hour.holdings ∙ ap length sh ∙ nh) (holdings_read l.hour.holdings g.holdings) in
     (q1.0 ∙ spelling_same encode_constraint l.hour.constraints ∙ sc, q2.0 ∙ spelling_rows encode_placed (λ x. x.point) l.hour.points ∙ sp, q3.0 ∙ sf, q4.0 ∙ spelling_same encode_holding l.hour.holdings ∙ sh)

@@ -17,49 +17,49 @@ fits s a b c d e =
     let q = and_right (leb s.points b) _ p in
     (leb-true _ _ (and_left _ _ e), leb-true _ _ (and_left _ _ p), leb-true _ _ (and_left _ _ q), leb-true _ _ (and_right (leb s.factors c) _ q))
 
-pub returns-then-not-has-room : goal.returns-then-not-has-room
-returns-then-not-has-room c =
-    let s : Ok (seen_in c.in-ok-found.found) ≡ answered seen_of (reads_tables c.args.bytes.now) = search rules in
+pub returns-then-not-has_room : goal.returns-then-not-has_room
+returns-then-not-has_room c =
+    let s : Ok (seen_in c.in_ok-found.found) ≡ answered seen_of (reads_tables c.args.bytes.now) = search rules in
     let b : Bytes c.args.bytes.now = λ i. (c.type-inv.bytes i).fits in
-    let n : room (seen_in c.in-ok-found.found) (length c.args.constraints.now) (length c.args.points.now) (length c.args.factors.now) (length c.args.holdings.now) ≡ false = sym c.if-not-has-room.ensures in
+    let n : room (seen_in c.in_ok-found.found) (length c.args.constraints.now) (length c.args.points.now) (length c.args.factors.now) (length c.args.holdings.now) ≡ false = sym c.if-not-has_room.ensures in
     let r : reads_into c.args.bytes.now c.args.constraints.now c.args.points.now c.args.factors.now c.args.holdings.now ≡ Err (refused_at 7 0) =
-    room-short (reads_tables c.args.bytes.now) (length c.args.constraints.now) (length c.args.points.now) (length c.args.factors.now) (length c.args.holdings.now) (seen_in c.in-ok-found.found) s n in
+    room-short (reads_tables c.args.bytes.now) (length c.args.constraints.now) (length c.args.points.now) (length c.args.factors.now) (length c.args.holdings.now) (seen_in c.in_ok-found.found) s n in
     record {
       answer = ap (answered seen_of) (sym r);
-      constraint-rows = laid_err _ _ (λ t. t.constraints) c.args.constraints.now r;
-      point-rows = laid_err _ _ (λ t. t.points) c.args.points.now r;
-      factor-rows = laid_err _ _ (λ t. t.factors) c.args.factors.now r;
-      holding-rows = laid_err _ _ (λ t. t.holdings) c.args.holdings.now r;
-      written-so = λ t e. read_writes c.args.bytes.now t b e;
+      constraint_rows = laid_err _ _ (λ t. t.constraints) c.args.constraints.now r;
+      point_rows = laid_err _ _ (λ t. t.points) c.args.points.now r;
+      factor_rows = laid_err _ _ (λ t. t.factors) c.args.factors.now r;
+      holding_rows = laid_err _ _ (λ t. t.holdings) c.args.holdings.now r;
+      written_so = λ t e. read_writes c.args.bytes.now t b e;
     }
 
-pub fill-tables-requires : goal.fill-tables-requires
-fill-tables-requires c =
-    let s : Ok (seen_in c.in-ok-found.found) ≡ answered seen_of (reads_tables c.args.bytes.now) = search rules in
+pub fill_tables-requires : goal.fill_tables-requires
+fill_tables-requires c =
+    let s : Ok (seen_in c.in_ok-found.found) ≡ answered seen_of (reads_tables c.args.bytes.now) = search rules in
     let b : Bytes c.args.bytes.now = λ i. (c.type-inv.bytes i).fits in
-    let f = fits (seen_in c.in-ok-found.found) (length c.args.constraints.now) (length c.args.points.now) (length c.args.factors.now) (length c.args.holdings.now) (sym c.if-not-has-room.ensures) in
-    let x = front_length c.in-ok-found.found.factors c.args.factors.now f.2 in
-    let y = front_length c.in-ok-found.found.points c.args.points.now f.1 in
-    let z = front_length c.in-ok-found.found.constraints c.args.constraints.now f.0 in
-    x ∙ factor_count c.args.bytes.now (seen_in c.in-ok-found.found) b s
-    ∙ ap (λ m. m * c.in-ok-found.found.constraints) (sym y) ∙ ap (λ m. length (take (c.in-ok-found.found.points - 0) c.args.points.now) * m) (sym z)
+    let f = fits (seen_in c.in_ok-found.found) (length c.args.constraints.now) (length c.args.points.now) (length c.args.factors.now) (length c.args.holdings.now) (sym c.if-not-has_room.ensures) in
+    let x = front_length c.in_ok-found.found.factors c.args.factors.now f.2 in
+    let y = front_length c.in_ok-found.found.points c.args.points.now f.1 in
+    let z = front_length c.in_ok-found.found.constraints c.args.constraints.now f.0 in
+    x ∙ factor_count c.args.bytes.now (seen_in c.in_ok-found.found) b s
+    ∙ ap (λ m. m * c.in_ok-found.found.constraints) (sym y) ∙ ap (λ m. length (take (c.in_ok-found.found.points - 0) c.args.points.now) * m) (sym z)
 
 pub returns : goal.returns
 returns c =
-    let s : Ok (seen_in c.in-ok-found.found) ≡ answered seen_of (reads_tables c.args.bytes.now) = search rules in
+    let s : Ok (seen_in c.in_ok-found.found) ≡ answered seen_of (reads_tables c.args.bytes.now) = search rules in
     let b : Bytes c.args.bytes.now = λ i. (c.type-inv.bytes i).fits in
-    let f = fits (seen_in c.in-ok-found.found) (length c.args.constraints.now) (length c.args.points.now) (length c.args.factors.now) (length c.args.holdings.now) (sym c.if-not-has-room.ensures) in
-    let g = room-good (reads_tables c.args.bytes.now) (length c.args.constraints.now) (length c.args.points.now) (length c.args.factors.now) (length c.args.holdings.now) (seen_in c.in-ok-found.found) s (sym c.if-not-has-room.ensures) in
-    let lc : length g.0.constraints ≡ c.in-ok-found.found.constraints = ap (λ (x : Seen). x.constraints) g.2 in
-    let lp : length g.0.points ≡ c.in-ok-found.found.points = ap (λ (x : Seen). x.points) g.2 in
-    let lf : length g.0.factors ≡ c.in-ok-found.found.factors = ap (λ (x : Seen). x.factors) g.2 in
-    let lh : length g.0.holdings ≡ c.in-ok-found.found.holdings = ap (λ (x : Seen). x.holdings) g.2 in
-    let q = c.fill-tables.ensures g.0 g.1 (lc ∙ sym (front_length _ c.args.constraints.now f.0)) (lp ∙ sym (front_length _ c.args.points.now f.1)) (lf ∙ sym (front_length _ c.args.factors.now f.2)) (lh ∙ sym (front_length _ c.args.holdings.now f.3)) in
+    let f = fits (seen_in c.in_ok-found.found) (length c.args.constraints.now) (length c.args.points.now) (length c.args.factors.now) (length c.args.holdings.now) (sym c.if-not-has_room.ensures) in
+    let g = room-good (reads_tables c.args.bytes.now) (length c.args.constraints.now) (length c.args.points.now) (length c.args.factors.now) (length c.args.holdings.now) (seen_in c.in_ok-found.found) s (sym c.if-not-has_room.ensures) in
+    let lc : length g.0.constraints ≡ c.in_ok-found.found.constraints = ap (λ (x : Seen). x.constraints) g.2 in
+    let lp : length g.0.points ≡ c.in_ok-found.found.points = ap (λ (x : Seen). x.points) g.2 in
+    let lf : length g.0.factors ≡ c.in_ok-found.found.factors = ap (λ (x : Seen). x.factors) g.2 in
+    let lh : length g.0.holdings ≡ c.in_ok-found.found.holdings = ap (λ (x : Seen). x.holdings) g.2 in
+    let q = c.fill_tables.ensures g.0 g.1 (lc ∙ sym (front_length _ c.args.constraints.now f.0)) (lp ∙ sym (front_length _ c.args.points.now f.1)) (lf ∙ sym (front_length _ c.args.factors.now f.2)) (lh ∙ sym (front_length _ c.args.holdings.now f.3)) in
     record {
       answer = ap (λ (x : Seen). Ok x) (sym g.2) ∙ ap (answered seen_of) (sym g.3);
-      constraint-rows = front_filled _ g.0.constraints c.fill-tables.new.constraints c.args.constraints.now q.0 lc ∙ laid_ok _ g.0 (λ t. t.constraints) c.args.constraints.now g.3;
-      point-rows = front_filled _ g.0.points c.fill-tables.new.points c.args.points.now q.1 lp ∙ laid_ok _ g.0 (λ t. t.points) c.args.points.now g.3;
-      factor-rows = front_filled _ g.0.factors c.fill-tables.new.factors c.args.factors.now q.2 lf ∙ laid_ok _ g.0 (λ t. t.factors) c.args.factors.now g.3;
-      holding-rows = front_filled _ g.0.holdings c.fill-tables.new.holdings c.args.holdings.now q.3 lh ∙ laid_ok _ g.0 (λ t. t.holdings) c.args.holdings.now g.3;
-      written-so = λ t e. read_writes c.args.bytes.now t b e;
+      constraint_rows = front_filled _ g.0.constraints c.fill_tables.new.constraints c.args.constraints.now q.0 lc ∙ laid_ok _ g.0 (λ t. t.constraints) c.args.constraints.now g.3;
+      point_rows = front_filled _ g.0.points c.fill_tables.new.points c.args.points.now q.1 lp ∙ laid_ok _ g.0 (λ t. t.points) c.args.points.now g.3;
+      factor_rows = front_filled _ g.0.factors c.fill_tables.new.factors c.args.factors.now q.2 lf ∙ laid_ok _ g.0 (λ t. t.factors) c.args.factors.now g.3;
+      holding_rows = front_filled _ g.0.holdings c.fill_tables.new.holdings c.args.holdings.now q.3 lh ∙ laid_ok _ g.0 (λ t. t.holdings) c.args.holdings.now g.3;
+      written_so = λ t e. read_writes c.args.bytes.now t b e;
     }

@@ -6,7 +6,7 @@ use Rattle.packages.proofs.rest.take_point.Goals as goal
 pub returns-in-Err : goal.returns-in-Err
 returns-in-Err c =
     let a : eqb c.args.seen.now.holdings 0 ≡ true = eq-eqb _ _ c.if-seen-ne0.false in
-    let b : ltb c.args.seen.now.points 256 ≡ true = lt-ltb _ _ c.if-seen-ge-MOST-POINTS.false in
+    let b : ltb c.args.seen.now.points 256 ≡ true = lt-ltb _ _ c.if-seen-ge-MOST_POINTS.false in
     rw (a, b) (unseen_err (λ x. x.point) _ (decode_point c.args.place c.args.seen.now.constraints c.args.fields.now) _ c.in-Err.ensures)
 
 pub returns-then-seen-ne0 : goal.returns-then-seen-ne0

@@ -16,13 +16,13 @@ returns-then-bytes-gt-LARGEST c =
     let b : leb (length c.args.bytes.now) 44340 ≡ false = lt-leb _ _ (omega arith) in
     rw (a, b)
 
-pub returns-in-default : goal.returns-in-default
+pub returns-in_default : goal.returns-in_default
 unfolding reads
-returns-in-default c = let a : leb 5 (length c.args.bytes.now) ≡ false = lt-leb _ _ (search rules) in rw a
+returns-in_default c = let a : leb 5 (length c.args.bytes.now) ≡ false = lt-leb _ _ (search rules) in rw a
 
-pub returns-then-from-be-bytes-bytes : goal.returns-then-from-be-bytes-bytes
+pub returns-then-from_be_bytes-bytes : goal.returns-then-from_be_bytes-bytes
 unfolding reads
-returns-then-from-be-bytes-bytes c =
+returns-then-from_be_bytes-bytes c =
     let a : leb 5 (length c.args.bytes.now) ≡ true = le-leb _ _ (search rules) in
     let b : leb (length c.args.bytes.now) 44340 ≡ true = le-leb _ _ (search rules) in
     let e : eqb (num4_at c.args.bytes.now 0) (length c.args.bytes.now - 4) ≡ false = ne_eqb _ _ (search rules) in
@@ -40,7 +40,7 @@ returns-then-version-ne1 c =
 pub returns : goal.returns
 returns c =
     let g = reads_good c.args.bytes.now (search rules) (search rules) (search rules) c.if-version-ne1.false in
-    c.test-records.ensures ∙ ap (λ r. answered (λ h. seen_of (tables_of h)) r) (sym g) ∙ twice (reads c.args.bytes.now)
+    c.test_records.ensures ∙ ap (λ r. answered (λ h. seen_of (tables_of h)) r) (sym g) ∙ twice (reads c.args.bytes.now)
   where
     twice : (r : Result Hour Told) → answered (λ h. seen_of (tables_of h)) r ≡ answered seen_of (answered tables_of r)
     twice (Ok h) = refl

@@ -16,43 +16,43 @@ use Rattle.packages.proofs.testing.test_records.Goals as goal
 abbrev refuse : Told → Result Seen Told
 refuse e = Err e
 
-pub returns-in-err-seen : goal.returns-in-err-seen
-returns-in-err-seen c =
+pub returns-in_err-seen : goal.returns-in_err-seen
+returns-in_err-seen c =
     let b : Bytes c.args.bytes.now = λ i. (c.type-inv.bytes i).fits in
     let fr : frame_of (drop 5 c.args.bytes.now) ≡ One c.in-Some.first.letter c.in-Some.first.fields.now c.next.new.self.rest.now = search rules in
     let l : c.in-Some.first.letter ≡ 68 = search rules in
-    let d : decode_day 0 c.in-Some.first.fields.now ≡ Ok (plain_day c.in-ok-day.day) = search rules in
+    let d : decode_day 0 c.in-Some.first.fields.now ≡ Ok (plain_day c.in_ok-day.day) = search rules in
     let q : c.next.new.self.place ≡ 1 = search rules in
     let n : length c.next.new.self.rest.now < length c.args.bytes.now = left c.args.bytes.now c.in-Some.first.letter c.in-Some.first.fields.now c.next.new.self.rest.now b fr in
-    let t = c.in-err-seen.ensures (length c.args.bytes.now) (hour (plain_day c.in-ok-day.day) [] [] []) n refl in
-    let r : answered counted (run (length c.args.bytes.now) 1 (hour (plain_day c.in-ok-day.day) [] [] []) c.next.new.self.rest.now) ≡ Err (told c.in-err-seen.field-0.0) =
-    ap (λ m. answered counted (run (length c.args.bytes.now) m (hour (plain_day c.in-ok-day.day) [] [] []) c.next.new.self.rest.now)) (sym q) ∙ sym t in
-    let p = err_from_is_err_and c.from-residual-in-err-seen.result c.from-residual-in-err-seen.ensures.1 in
+    let t = c.in_err-seen.ensures (length c.args.bytes.now) (hour (plain_day c.in_ok-day.day) [] [] []) n refl in
+    let r : answered counted (run (length c.args.bytes.now) 1 (hour (plain_day c.in_ok-day.day) [] [] []) c.next.new.self.rest.now) ≡ Err (told c.in_err-seen.field-0.0) =
+    ap (λ m. answered counted (run (length c.args.bytes.now) m (hour (plain_day c.in_ok-day.day) [] [] []) c.next.new.self.rest.now)) (sym q) ∙ sym t in
+    let p = err_from_is_err_and c.from_residual-in_err-seen.result c.from_residual-in_err-seen.ensures.1 in
     ap (told_by seen_in) p.1 ∙ ap (λ e. refuse (told e)) p.2
-    ∙ told-refused c.args.bytes.now (length c.args.bytes.now) c.in-Some.first.letter c.in-Some.first.fields.now c.next.new.self.rest.now (plain_day c.in-ok-day.day) b fr l d (told c.in-err-seen.field-0.0) r
+    ∙ told-refused c.args.bytes.now (length c.args.bytes.now) c.in-Some.first.letter c.in-Some.first.fields.now c.next.new.self.rest.now (plain_day c.in_ok-day.day) b fr l d (told c.in_err-seen.field-0.0) r
 
-pub overflow-mul-result : goal.overflow-mul-result
-overflow-mul-result c =
+pub overflow_mul-result : goal.overflow_mul-result
+overflow_mul-result c =
     let b : Bytes c.args.bytes.now = λ i. (c.type-inv.bytes i).fits in
     let fr : frame_of (drop 5 c.args.bytes.now) ≡ One c.in-Some.first.letter c.in-Some.first.fields.now c.next.new.self.rest.now = search rules in
     let l : c.in-Some.first.letter ≡ 68 = search rules in
-    let d : decode_day 0 c.in-Some.first.fields.now ≡ Ok (plain_day c.in-ok-day.day) = search rules in
+    let d : decode_day 0 c.in-Some.first.fields.now ≡ Ok (plain_day c.in_ok-day.day) = search rules in
     let q : c.next.new.self.place ≡ 1 = search rules in
     let n : length c.next.new.self.rest.now < length c.args.bytes.now = left c.args.bytes.now c.in-Some.first.letter c.in-Some.first.fields.now c.next.new.self.rest.now b fr in
-    let t = c.in-ok-seen.ensures (length c.args.bytes.now) (hour (plain_day c.in-ok-day.day) [] [] []) n refl in
-    let r : answered counted (run (length c.args.bytes.now) 1 (hour (plain_day c.in-ok-day.day) [] [] []) c.next.new.self.rest.now) ≡ Ok c.in-ok-seen.seen =
-    ap (λ m. answered counted (run (length c.args.bytes.now) m (hour (plain_day c.in-ok-day.day) [] [] []) c.next.new.self.rest.now)) (sym q) ∙ sym t in
-    record { fits = few c.args.bytes.now (length c.args.bytes.now) c.in-Some.first.letter c.in-Some.first.fields.now c.next.new.self.rest.now (plain_day c.in-ok-day.day) b fr l d c.in-ok-seen.seen r }
+    let t = c.in_ok-seen.ensures (length c.args.bytes.now) (hour (plain_day c.in_ok-day.day) [] [] []) n refl in
+    let r : answered counted (run (length c.args.bytes.now) 1 (hour (plain_day c.in_ok-day.day) [] [] []) c.next.new.self.rest.now) ≡ Ok c.in_ok-seen.seen =
+    ap (λ m. answered counted (run (length c.args.bytes.now) m (hour (plain_day c.in_ok-day.day) [] [] []) c.next.new.self.rest.now)) (sym q) ∙ sym t in
+    record { fits = few c.args.bytes.now (length c.args.bytes.now) c.in-Some.first.letter c.in-Some.first.fields.now c.next.new.self.rest.now (plain_day c.in_ok-day.day) b fr l d c.in_ok-seen.seen r }
 
 pub returns : goal.returns
 returns c =
     let b : Bytes c.args.bytes.now = λ i. (c.type-inv.bytes i).fits in
     let fr : frame_of (drop 5 c.args.bytes.now) ≡ One c.in-Some.first.letter c.in-Some.first.fields.now c.next.new.self.rest.now = search rules in
     let l : c.in-Some.first.letter ≡ 68 = search rules in
-    let d : decode_day 0 c.in-Some.first.fields.now ≡ Ok (plain_day c.in-ok-day.day) = search rules in
+    let d : decode_day 0 c.in-Some.first.fields.now ≡ Ok (plain_day c.in_ok-day.day) = search rules in
     let q : c.next.new.self.place ≡ 1 = search rules in
     let n : length c.next.new.self.rest.now < length c.args.bytes.now = left c.args.bytes.now c.in-Some.first.letter c.in-Some.first.fields.now c.next.new.self.rest.now b fr in
-    let t = c.in-ok-seen.ensures (length c.args.bytes.now) (hour (plain_day c.in-ok-day.day) [] [] []) n refl in
-    let r : answered counted (run (length c.args.bytes.now) 1 (hour (plain_day c.in-ok-day.day) [] [] []) c.next.new.self.rest.now) ≡ Ok c.in-ok-seen.seen =
-    ap (λ m. answered counted (run (length c.args.bytes.now) m (hour (plain_day c.in-ok-day.day) [] [] []) c.next.new.self.rest.now)) (sym q) ∙ sym t in
-    told-good c.args.bytes.now (length c.args.bytes.now) c.in-Some.first.letter c.in-Some.first.fields.now c.next.new.self.rest.now (plain_day c.in-ok-day.day) b fr l d c.in-ok-seen.seen r
+    let t = c.in_ok-seen.ensures (length c.args.bytes.now) (hour (plain_day c.in_ok-day.day) [] [] []) n refl in
+    let r : answered counted (run (length c.args.bytes.now) 1 (hour (plain_day c.in_ok-day.day) [] [] []) c.next.new.self.rest.now) ≡ Ok c.in_ok-seen.seen =
+    ap (λ m. answered counted (run (length c.args.bytes.now) m (hour (plain_day c.in_ok-day.day) [] [] []) c.next.new.self.rest.now)) (sym q) ∙ sym t in
+    told-good c.args.bytes.now (length c.args.bytes.now) c.in-Some.first.letter c.in-Some.first.fields.now c.next.new.self.rest.now (plain_day c.in_ok-day.day) b fr l d c.in_ok-seen.seen r

@@ -10,8 +10,8 @@ use Rattle.writer.proofs.pieces.put_factors.Goals as goal
 pub loop-factor-preserved : goal.loop-factor-preserved
 loop-factor-preserved c =
     let f : SFits w16 (get_or c.args.row.now c.loop-factor.factor-index (pos 0)) = search rules in
-    factor_more c.args.row.now c.loop-factor.factor-index (pos 0) c.args.out.now c.loop-factor.out c.put-at.new.out c.factor-bytes.result c.args.start c.loop-factor.at c.put-at.result c.loop-factor-test.true c.loop-factor.invariant
-    (c.factor-bytes.ensures ∙ ap twos2 (to_z-of_z w16 (get_or c.args.row.now c.loop-factor.factor-index (pos 0)) f)) c.requires c.put-at.ensures.wrote
+    factor_more c.args.row.now c.loop-factor.factor-index (pos 0) c.args.out.now c.loop-factor.out c.put-at.new.out c.factor_bytes.result c.args.start c.loop-factor.at c.put-at.result c.loop-factor-test.true c.loop-factor.invariant
+    (c.factor_bytes.ensures ∙ ap twos2 (to_z-of_z w16 (get_or c.args.row.now c.loop-factor.factor-index (pos 0)) f)) c.requires c.put-at.ensures.wrote
 
 pub returns : goal.returns
 returns c =

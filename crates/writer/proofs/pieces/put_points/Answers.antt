@@ -19,13 +19,13 @@ turn ps i = get_or ps i blank
 itself : (ps : List PointRow) (i : ℕ) → i < length ps → turn ps i ≡ get_or ps i (turn ps i)
 itself ps i h = get_or_default ps i blank (turn ps i) h
 
-pub offset-bounds-factors-first : goal.offset-bounds-factors-first
-offset-bounds-factors-first c =
+pub offset_bounds-factors-first : goal.offset_bounds-factors-first
+offset_bounds-factors-first c =
     let h = row-end c.args.columns c.args.points.now c.args.factors.now c.loop-point.point-index c.loop-point.first (turn c.args.points.now c.loop-point.point-index) c.loop-point-test.true (itself _ _ c.loop-point-test.true) c.loop-point.invariant.0 c.requires.rows in
     search rules
 
-pub slice-bounds-put-factors-end : goal.slice-bounds-put-factors-end
-slice-bounds-put-factors-end c =
+pub slice_bounds-put_factors-end : goal.slice_bounds-put_factors-end
+slice_bounds-put_factors-end c =
     let h = row-end c.args.columns c.args.points.now c.args.factors.now c.loop-point.point-index c.loop-point.first (turn c.args.points.now c.loop-point.point-index) c.loop-point-test.true (itself _ _ c.loop-point-test.true) c.loop-point.invariant.0 c.requires.rows in
     search rules
 
@@ -33,19 +33,19 @@ slice-bounds-put-factors-end c =
 head : (out bytes mid : List ℕ) (at n to : ℕ) (p : PointRow) → bytes ≡ be2 (14 + 2 * n) ++ (80 ∷ encode_point p) → (at + length bytes ≤ length out → Wrote out at bytes to mid) → at + 16 ≤ length out → Wrote out at (be2 (14 + 2 * n) ++ (80 ∷ encode_point p)) to mid
 head out bytes mid at n to p e put room = subst (λ (bs : List ℕ). Wrote out at bs to mid) e (put (omega (arith, ap length e)))
 
-pub put-factors-at-requires : goal.put-factors-at-requires
-put-factors-at-requires c =
+pub put_factors-at-requires : goal.put_factors-at-requires
+put_factors-at-requires c =
     let p = turn c.args.points.now c.loop-point.point-index in
     let room = head-room c.args.columns c.args.points.now c.args.factors.now c.loop-point.point-index c.loop-point.first (turn c.args.points.now c.loop-point.point-index) c.loop-point-test.true (itself _ _ c.loop-point-test.true) c.loop-point.invariant.0 c.requires.rows c.args.out.now c.loop-point.out c.args.start c.loop-point.at c.loop-point.invariant.1 c.requires.room in
-    let v = head c.loop-point.out c.point-head.result c.put-to.new.out c.loop-point.at c.args.columns c.put-to.result (turn c.args.points.now c.loop-point.point-index) c.point-head.ensures c.put-to.ensures.wrote room in
+    let v = head c.loop-point.out c.point_head.result c.put-to.new.out c.loop-point.at c.args.columns c.put-to.result (turn c.args.points.now c.loop-point.point-index) c.point_head.ensures c.put-to.ensures.wrote room in
     row_room c.args.columns c.args.points.now c.args.factors.now c.loop-point.point-index c.loop-point.first (turn c.args.points.now c.loop-point.point-index) c.loop-point-test.true (itself _ _ c.loop-point-test.true) c.loop-point.invariant.0 c.requires.rows c.args.out.now c.loop-point.out c.args.start c.loop-point.at c.loop-point.invariant.1 c.requires.room c.put-to.result c.put-to.new.out v
 
 pub loop-point-preserved : goal.loop-point-preserved
 loop-point-preserved c =
     let room = head-room c.args.columns c.args.points.now c.args.factors.now c.loop-point.point-index c.loop-point.first (turn c.args.points.now c.loop-point.point-index) c.loop-point-test.true (itself _ _ c.loop-point-test.true) c.loop-point.invariant.0 c.requires.rows c.args.out.now c.loop-point.out c.args.start c.loop-point.at c.loop-point.invariant.1 c.requires.room in
-    let v = head c.loop-point.out c.point-head.result c.put-to.new.out c.loop-point.at c.args.columns c.put-to.result (turn c.args.points.now c.loop-point.point-index) c.point-head.ensures c.put-to.ensures.wrote room in (
+    let v = head c.loop-point.out c.point_head.result c.put-to.new.out c.loop-point.at c.args.columns c.put-to.result (turn c.args.points.now c.loop-point.point-index) c.point_head.ensures c.put-to.ensures.wrote room in (
       row_next c.args.columns c.args.points.now c.args.factors.now c.loop-point.point-index c.loop-point.first (turn c.args.points.now c.loop-point.point-index) c.loop-point-test.true (itself _ _ c.loop-point-test.true) c.loop-point.invariant.0 c.requires.rows,
-      point-more c.args.columns c.args.points.now c.args.factors.now c.loop-point.point-index c.loop-point.first (turn c.args.points.now c.loop-point.point-index) c.loop-point-test.true (itself _ _ c.loop-point-test.true) c.loop-point.invariant.0 c.requires.rows c.args.out.now c.loop-point.out c.args.start c.loop-point.at c.loop-point.invariant.1 c.requires.room c.put-to.result c.put-factors-at.result c.put-to.new.out c.put-factors-at.new.out v c.put-factors-at.ensures,
+      point-more c.args.columns c.args.points.now c.args.factors.now c.loop-point.point-index c.loop-point.first (turn c.args.points.now c.loop-point.point-index) c.loop-point-test.true (itself _ _ c.loop-point-test.true) c.loop-point.invariant.0 c.requires.rows c.args.out.now c.loop-point.out c.args.start c.loop-point.at c.loop-point.invariant.1 c.requires.room c.put-to.result c.put_factors-at.result c.put-to.new.out c.put_factors-at.new.out v c.put_factors-at.ensures,
     )
 
 pub returns : goal.returns

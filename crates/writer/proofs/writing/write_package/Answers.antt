@@ -20,7 +20,7 @@ given d cs ps fs hs = tables (plain_day d) cs ps fs hs
 
 pub returns-then-out-long : goal.returns-then-out-long
 returns-then-out-long c =
-    let s : sizes_ok (given c.args.day.now c.args.constraints.now c.args.points.now c.args.factors.now c.args.holdings.now) ≡ true = sym c.if-not-sizes-ok.ensures in
+    let s : sizes_ok (given c.args.day.now c.args.constraints.now c.args.points.now c.args.factors.now c.args.holdings.now) ≡ true = sym c.if-not-sizes_ok.ensures in
     let b : bad_entry (given c.args.day.now c.args.constraints.now c.args.points.now c.args.factors.now c.args.holdings.now) ≡ None = search rules in
     let l = tables_long (given c.args.day.now c.args.constraints.now c.args.points.now c.args.factors.now c.args.holdings.now) (sizes_inv (given c.args.day.now c.args.constraints.now c.args.points.now c.args.factors.now c.args.holdings.now) s).3 in
     let w = writes_short (given c.args.day.now c.args.constraints.now c.args.points.now c.args.factors.now c.args.holdings.now) (length c.args.out.now) s b (omega arith) in
@@ -30,22 +30,22 @@ returns-then-out-long c =
       reads_back = tt;
     }
 
-pub put-package-requires : goal.put-package-requires
-put-package-requires c =
-    let s : sizes_ok (given c.args.day.now c.args.constraints.now c.args.points.now c.args.factors.now c.args.holdings.now) ≡ true = sym c.if-not-sizes-ok.ensures in
+pub put_package-requires : goal.put_package-requires
+put_package-requires c =
+    let s : sizes_ok (given c.args.day.now c.args.constraints.now c.args.points.now c.args.factors.now c.args.holdings.now) ≡ true = sym c.if-not-sizes_ok.ensures in
     let l = tables_long (given c.args.day.now c.args.constraints.now c.args.points.now c.args.factors.now c.args.holdings.now) (sizes_inv (given c.args.day.now c.args.constraints.now c.args.points.now c.args.factors.now c.args.holdings.now) s).3 in
     let m = tables_small (given c.args.day.now c.args.constraints.now c.args.points.now c.args.factors.now c.args.holdings.now) s in
     record { sizes = s; long = omega arith; small = omega arith; room = omega arith }
 
 pub returns : goal.returns
 returns c =
-    let s : sizes_ok (given c.args.day.now c.args.constraints.now c.args.points.now c.args.factors.now c.args.holdings.now) ≡ true = sym c.if-not-sizes-ok.ensures in
+    let s : sizes_ok (given c.args.day.now c.args.constraints.now c.args.points.now c.args.factors.now c.args.holdings.now) ≡ true = sym c.if-not-sizes_ok.ensures in
     let b : bad_entry (given c.args.day.now c.args.constraints.now c.args.points.now c.args.factors.now c.args.holdings.now) ≡ None = search rules in
     let l = tables_long (given c.args.day.now c.args.constraints.now c.args.points.now c.args.factors.now c.args.holdings.now) (sizes_inv (given c.args.day.now c.args.constraints.now c.args.points.now c.args.factors.now c.args.holdings.now) s).3 in
     let w = writes-good (given c.args.day.now c.args.constraints.now c.args.points.now c.args.factors.now c.args.holdings.now) (length c.args.out.now) s b (omega arith) in
-    let p = whole c.args.out.now (package_of (hour_of (given c.args.day.now c.args.constraints.now c.args.points.now c.args.factors.now c.args.holdings.now))) c.put-package.result c.put-package.new.out c.put-package.ensures.wrote in
+    let p = whole c.args.out.now (package_of (hour_of (given c.args.day.now c.args.constraints.now c.args.points.now c.args.factors.now c.args.holdings.now))) c.put_package.result c.put_package.new.out c.put_package.ensures.wrote in
     record {
       answer = ap (λ (n : ℕ). Ok n) p.0 ∙ ap (answered length) (sym w);
       buffer = p.1 ∙ ap (λ r. written r c.args.out.now) (sym w);
-      reads_back = ap reads_tables p.2 ∙ written_reads (given c.args.day.now c.args.constraints.now c.args.points.now c.args.factors.now c.args.holdings.now) (length c.args.out.now) _ (day_ok_lem c.args.day.now) c.put-package.ensures.fits w;
+      reads_back = ap reads_tables p.2 ∙ written_reads (given c.args.day.now c.args.constraints.now c.args.points.now c.args.factors.now c.args.holdings.now) (length c.args.out.now) _ (day_ok_lem c.args.day.now) c.put_package.ensures.fits w;
     }

@@ -6,12 +6,12 @@ use Rattle.writer.proofs.recorded.HoldingRowRecorded.put_record.Goals as goal
 
 pub returns : goal.returns
 returns c =
-    let n = ap length c.holding-bytes.ensures.value in
+    let n = ap length c.holding_bytes.ensures.value in
     let a = c.put-to.ensures.wrote (omega (arith, c.requires)) in
     let b = c.put.ensures.wrote (omega (arith, c.requires, a.end, a.len)) in
     let e : Wrote c.put-to.new.out c.put-to.result (encode_holding c.args.self.now) c.put.result c.put.new.out =
-    subst (λ (bs : List ℕ). Wrote c.put-to.new.out c.put-to.result bs c.put.result c.put.new.out) c.holding-bytes.ensures.value b in
+    subst (λ (bs : List ℕ). Wrote c.put-to.new.out c.put-to.result bs c.put.result c.put.new.out) c.holding_bytes.ensures.value b in
     record {
       wrote = joined _ _ _ _ _ _ _ _ a e;
-      fits = c.holding-bytes.ensures.fits;
+      fits = c.holding_bytes.ensures.fits;
     }
