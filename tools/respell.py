@@ -24,6 +24,10 @@ OTHER = {
     "month-test": "month_test_lem",
     "on-frame": "on_frame_lem",
     "posted-as": "posted_as_lem",
+    "paid-line": "paid_line_lem",
+    "posted-line": "posted_line_lem",
+    "refund-test": "refund_test_lem",
+    "refunded-line": "refunded_line_lem",
     "refused-in": "refused_in_lem",
     "sizes-ok": "sizes_ok_lem",
     "derationPrice": "deration_price_of",
@@ -64,12 +68,12 @@ def defined(path):
         head = LAYOUT.match(line).group(0)
         rest = line[len(head):]
         if line[:1] not in (" ", "\n", ""):
-            inside = "data" if "data " in head else "record" if "record " in head else None
+            inside = "data" if "data " in head else "record" if "record " in head else "module" if rest.startswith("module ") else None
             m = re.match(r"(\S+)[^:]*? : (.*)$", rest)
             if m and not (is_answer(path) and m.group(2).startswith("goal.")):
                 yield m.group(1)
         elif inside:
-            m = re.match(r"\s+(?:pub )?(\S+) : ", line)
+            m = re.match(r"\s+(?:pub )?(?:abbrev )?(\S+) : ", line) if inside != "module" else re.match(r"  (?:pub )?(?:abbrev )?([^\s(){}]+) : ", line)
             if m:
                 yield m.group(1)
 

@@ -23,8 +23,8 @@ appended_as (Ok v) x z a b e h = h ∙ ap (λ (l : List ℕ). x ++ l) e
 appended_as (Err v) x z a b e h = tt
 
 module _ (m : Meaning) (t : Tables) (f₀ f' : Figures) (roll₀ roll' : List RollLine) (s' : List HourLine) (x' : List ℤ) (fe : f₀ ≡ started 128) (re : roll₀ ≡ replicate 128 clear_roll) where
-  pub owners-told : (a : HourAnswer) (k n : ℕ) (hs : List HoldingRow) → PostAccepted f₀ roll₀ (first_hour_of m t) a f' roll' s' x' → k ≡ min n 128 → n ≡ owners_in hs → hs ≡ t.holdings → lines_by owner_hour_text 0 (take (k - 0) s') ≡ owners_text m t
-  owners-told a k n hs acc ke ne he =
+  pub owners_told : (a : HourAnswer) (k n : ℕ) (hs : List HoldingRow) → PostAccepted f₀ roll₀ (first_hour_of m t) a f' roll' s' x' → k ≡ min n 128 → n ≡ owners_in hs → hs ≡ t.holdings → lines_by owner_hour_text 0 (take (k - 0) s') ≡ owners_text m t
+  owners_told a k n hs acc ke ne he =
       let F : Figures → Type 0 = λ f. PostAccepted f roll₀ (first_hour_of m t) a f' roll' s' x' in
       let G : List RollLine → Type 0 = λ r. PostAccepted (started 128) r (first_hour_of m t) a f' roll' s' x' in
       let h : PostAccepted (started 128) (replicate 128 clear_roll) (first_hour_of m t) a f' roll' s' x' = subst G re (subst F fe acc) in
@@ -33,8 +33,8 @@ module _ (m : Meaning) (t : Tables) (f₀ f' : Figures) (roll₀ roll' : List Ro
       let lines : take (k - 0) s' ≡ take (min (owners_in t.holdings) 128) (lines_of 128 (hour_line_of (rent_of p) (dues_of p))) = ap (λ (i : ℕ). take i s') count ∙ ap (λ (l : List HourLine). take (min (owners_in t.holdings) 128) l) h.sheet_after in
       ap (λ (l : List HourLine). lines_by owner_hour_text 0 l) lines ∙ ap (λ (o : Option Told). owners_after o p) (sym h.tests)
 
-  pub hour-refused : (e : Told) → PostRefused f₀ roll₀ (first_hour_of m t) e f' roll' s' x' → refused_hour e ≡ owners_text m t
-  hour-refused e ref =
+  pub hour_refused : (e : Told) → PostRefused f₀ roll₀ (first_hour_of m t) e f' roll' s' x' → refused_hour e ≡ owners_text m t
+  hour_refused e ref =
       let F : Figures → Type 0 = λ f. PostRefused f roll₀ (first_hour_of m t) e f' roll' s' x' in
       let G : List RollLine → Type 0 = λ r. PostRefused (started 128) r (first_hour_of m t) e f' roll' s' x' in
       let h : PostRefused (started 128) (replicate 128 clear_roll) (first_hour_of m t) e f' roll' s' x' = subst G re (subst F fe ref) in

@@ -9,7 +9,7 @@ use Rattle.ledger.specs.Ledger.{Event, Ledger, blank, noted, ledger_from, figure
 use Rattle.ledger.specs.Runs.{is_open, is_refunded, is_closed, figures, Cell, cell, month_of, roll_of, Step, posts, posts_not, refunds, refunds_not, closes, closes_not, Move, Chain, World, Runs, moves_of, events_of, EventHolds, EachHolds, Balanced, Holds, Stands}
 use Rattle.ledger.proofs.Sums.{up_to_none}
 use Rattle.ledger.proofs.Places.{copies}
-use Rattle.ledger.proofs.Steps.{Kept, hour-kept, hour-holds, refund-kept, refund-whole, close-kept, close-loads, paid_of}
+use Rattle.ledger.proofs.Steps.{Kept, hour_kept, hour_holds, refund_kept, refund_whole, close_kept, close_loads, paid_of}
 
 -- every owner has had its shortfall charges back
 abbrev Whole : ℕ → Ledger → Type 0
@@ -33,14 +33,14 @@ moved : (n : ℕ) (l : Ledger) (a b : Cell) → b ≡ a → Good n l a → Good 
 moved n l a b e g = let F : Cell → Type 0 = λ c. Good n l c in subst F (sym e) g
 
 step_good : (n : ℕ) (l : Ledger) {a b : Cell} {e : Event} → Step a e b → Good n l a → EventHolds n l a e b × Good n (noted l e) b
-step_good n l (posts keeps h) g = (hour-holds g.0 h keeps, (hour-kept g.0 h, g.1, g.2))
+step_good n l (posts keeps h) g = (hour_holds g.0 h keeps, (hour_kept g.0 h, g.1, g.2))
 step_good n l (posts_not keeps h) g =
     let e = same_open h.month_after h.roll_after in
     (record { cell_stays = e; sheet_stays = h.sheet_after; amounts_stay = h.amounts_after }, moved n l _ _ e g)
-step_good n l (refunds h) g = (tt, (refund-kept g.0 h, g.2, λ left o b. refund-whole g.0 left o b (g.1 o)))
+step_good n l (refunds h) g = (tt, (refund_kept g.0 h, g.2, λ left o b. refund_whole g.0 left o b (g.1 o)))
 step_good n l (refunds_not h) g = let e = same_open h.month_after h.roll_after in (e, moved n l _ _ e g)
 step_good n l (closes {loads = loads} h) g =
-    (close-loads g.0 g.1 h, (close-kept g.0 h, λ j paid. g.2 (paid_of l.balance (load_total loads) (mwh_in loads) j (omega (arith, g.1 j)))))
+    (close_loads g.0 g.1 h, (close_kept g.0 h, λ j paid. g.2 (paid_of l.balance (load_total loads) (mwh_in loads) j (omega (arith, g.1 j)))))
 step_good n l (closes_not h) g =
     let e = same_refunded h.month_after in
     (record { cell_stays = e; loads_stay = h.loads_after }, moved n l _ _ e g)

@@ -8,7 +8,7 @@ use Rattle.pricing.proofs.Within.{paid_at_most, paid_at_least}
 use Rattle.units.specs.Parts.{positive}
 use Rattle.sharing.specs.Shares.{up_to, share_of}
 use Rattle.sharing.proofs.Parts.{up_to_same}
-use Rattle.sharing.proofs.Laws.{share-none}
+use Rattle.sharing.proofs.Laws.{share_none}
 use Rattle.rights.specs.Rights.{no_holding}
 use Rattle.ledger.specs.declared.lines.HourAnswer.{HourAnswer}
 use Rattle.ledger.specs.declared.lines.HourLine.{HourLine}
@@ -23,9 +23,9 @@ use Rattle.ledger.specs.Ledger.{Ledger, with_hour, repaid, with_refund, with_loa
 use Rattle.ledger.specs.Runs.{Keeps, ByRule, HourHolds, Balanced}
 use Rattle.ledger.proofs.Sums.{up_to_add, up_to_at, share_back}
 use Rattle.ledger.proofs.Passed.{passed}
-use Rattle.ledger.proofs.Owners.{fair-hour, all-shorts}
+use Rattle.ledger.proofs.Owners.{fair_hour, all_shorts}
 use Rattle.ledger.proofs.Closable.{closable, every_at_lem, unpaid}
-use Rattle.ledger.proofs.Places.{length-lines, at-line, same_lines, front_at, past-front, length_front}
+use Rattle.ledger.proofs.Places.{length_lines, at_line, same_lines, front_at, past_front, length_front}
 
 -- a month and a roll that are the ledger's
 pub record Kept (n : ℕ) (l : Ledger) (f : Figures) (roll : List RollLine) : Type 0 where
@@ -35,10 +35,10 @@ pub record Kept (n : ℕ) (l : Ledger) (f : Figures) (roll : List RollLine) : Ty
   pub balanced : Balanced l
 
 pub roll_length : {n : ℕ} {l : Ledger} {f : Figures} {roll : List RollLine} → Kept n l f roll → length roll ≡ n
-roll_length {n} {l} k = ap length k.lines ∙ length-lines n (owner_line l)
+roll_length {n} {l} k = ap length k.lines ∙ length_lines n (owner_line l)
 
 pub roll_at : {n : ℕ} {l : Ledger} {f : Figures} {roll : List RollLine} → Kept n l f roll → (o : ℕ) → o < n → get_or roll o clear_roll ≡ owner_line l o
-roll_at {n} {l} k o h = ap (λ r. get_or r o clear_roll) k.lines ∙ at-line n (owner_line l) o clear_roll h
+roll_at {n} {l} k o h = ap (λ r. get_or r o clear_roll) k.lines ∙ at_line n (owner_line l) o clear_roll h
 
 abbrev load : ℕ → ℤ → LoadLine
 load m z = record { mwh = m; paid = record { value = z } }
@@ -62,31 +62,31 @@ by_rule p h x keeps e is =
     }
 
 module _ {n : ℕ} {l : Ledger} {f : Figures} {roll : List RollLine} (k : Kept n l f roll) {p : Posting} {a : HourAnswer} {f' : Figures} {roll' : List RollLine} {sheet' : List HourLine} {amounts' : List ℤ} (h : PostAccepted f roll p a f' roll' sheet' amounts') where
-  posted-month : f' ≡ figures_of n (with_hour l p)
-  posted-month = h.month_after ∙ ap (λ g. after_post g p.day.hour (rent_of p) (dues_of p)) k.month
+  posted_month : f' ≡ figures_of n (with_hour l p)
+  posted_month = h.month_after ∙ ap (λ g. after_post g p.day.hour (rent_of p) (dues_of p)) k.month
 
-  posted-line : (o : ℕ) → o < n → posted_line roll (rent_of p) (dues_of p) o ≡ owner_line (with_hour l p) o
-  posted-line o b = ap (λ x. added_to x (hour_line_of (rent_of p) (dues_of p) o)) (roll_at k o b)
+  posted_line_lem : (o : ℕ) → o < n → posted_line roll (rent_of p) (dues_of p) o ≡ owner_line (with_hour l p) o
+  posted_line_lem o b = ap (λ x. added_to x (hour_line_of (rent_of p) (dues_of p) o)) (roll_at k o b)
 
-  pub hour-kept : Kept n (with_hour l p) f' roll'
-  hour-kept =
+  pub hour_kept : Kept n (with_hour l p) f' roll'
+  hour_kept =
       record {
-        month = posted-month;
-        lines = h.roll_after ∙ ap (λ m. lines_of m (posted_line roll (rent_of p) (dues_of p))) (roll_length k) ∙ same_lines n (posted_line roll (rent_of p) (dues_of p)) (owner_line (with_hour l p)) posted-line;
-        shorts = omega (arith, up_to_add l.short (own_short (rent_of p) (dues_of p)) n, k.shorts, ap (up_to (own_short (rent_of p) (dues_of p))) (roll_length k), all-shorts (rent_of p) (dues_of p) (length roll) (passed f roll p h.tests).owners);
+        month = posted_month;
+        lines = h.roll_after ∙ ap (λ m. lines_of m (posted_line roll (rent_of p) (dues_of p))) (roll_length k) ∙ same_lines n (posted_line roll (rent_of p) (dues_of p)) (owner_line (with_hour l p)) posted_line_lem;
+        shorts = omega (arith, up_to_add l.short (own_short (rent_of p) (dues_of p)) n, k.shorts, ap (up_to (own_short (rent_of p) (dues_of p))) (roll_length k), all_shorts (rent_of p) (dues_of p) (length roll) (passed f roll p h.tests).owners);
         balanced = omega (arith, k.balanced);
       }
 
-  pub hour-holds : Keeps p.means → HourHolds n l p a sheet' amounts'
-  hour-holds keeps =
+  pub hour_holds : Keeps p.means → HourHolds n l p a sheet' amounts'
+  hour_holds keeps =
       let ok = passed f roll p h.tests in
-      let fairly = fair-hour (rent_of p) (dues_of p) (length roll) ok.owners in
+      let fairly = fair_hour (rent_of p) (dues_of p) (length roll) ok.owners in
       let within = λ (o : ℕ) (b : o < n). subst (λ (m : ℕ). o < m) (sym (roll_length k)) b in
       record {
         amounts_by_rule = λ i b. by_rule p (get_or p.holdings i no_holding) (get_or amounts' i (pos 0)) keeps (ok.holdings i b).served (front_at (amount_in p) p.holdings p.amounts amounts' h.amounts_after i no_holding (pos 0) b);
-        past_stays = past-front (amount_in p) p.holdings p.amounts amounts' h.amounts_after;
+        past_stays = past_front (amount_in p) p.holdings p.amounts amounts' h.amounts_after;
         same_length = length_front (amount_in p) p.holdings p.amounts amounts' h.amounts_after ok.room;
-        answer_of_ledger = h.answer ∙ ap (answer_of (rent_of p) (dues_of p)) (ap (λ g. g.balance) posted-month);
+        answer_of_ledger = h.answer ∙ ap (answer_of (rent_of p) (dues_of p)) (ap (λ g. g.balance) posted_month);
         sheet_of_ledger = h.sheet_after ∙ ap (λ m. lines_of m (hour_line_of (rent_of p) (dues_of p))) (roll_length k);
         at_most_credit = λ o b. fairly.within (omega arith) o (within o b);
         not_over = λ v o b. fairly.not_over v o (within o b);
@@ -101,46 +101,46 @@ abbrev short_figure : RollLine → ℕ
 short_figure x = positive x.short.value
 
 module _ {n : ℕ} {l : Ledger} {f : Figures} {roll : List RollLine} (k : Kept n l f roll) where
-  refunded-line : (o : ℕ) → o < n → refunded_line f roll o ≡ owner_line (with_refund l) o
-  refunded-line o b =
+  refunded_line_lem : (o : ℕ) → o < n → refunded_line f roll o ≡ owner_line (with_refund l) o
+  refunded_line_lem o b =
       let w : (j : ℕ) → j < suc o → short_in roll j ≡ l.short j = λ j c. ap short_figure (roll_at k j (omega arith)) in
       let e : share_of (refund_sum f) f.shorts (short_in roll) o ≡ share_of (repaid l) l.shorts l.short o = same_share (refund_sum f) (repaid l) f.shorts l.shorts (short_in roll) l.short o (ap refund_sum k.month) (ap (λ g. g.shorts) k.month) (up_to_same (short_in roll) l.short o (λ j c. w j (omega arith))) (up_to_same (short_in roll) l.short (suc o) w) in
       ap (given (get_or roll o clear_roll)) e ∙ ap (λ x. given x (share_of (repaid l) l.shorts l.short o)) (roll_at k o b)
 
-  pub refund-kept : {f' : Figures} {roll' : List RollLine} → RefundAccepted f roll f' roll' → Kept n (with_refund l) f' roll'
-  refund-kept h =
+  pub refund_kept : {f' : Figures} {roll' : List RollLine} → RefundAccepted f roll f' roll' → Kept n (with_refund l) f' roll'
+  refund_kept h =
       record {
         month = h.month_after ∙ ap after_refund k.month;
-        lines = h.roll_after ∙ ap (λ m. lines_of m (refunded_line f roll)) (roll_length k) ∙ same_lines n (refunded_line f roll) (owner_line (with_refund l)) refunded-line;
+        lines = h.roll_after ∙ ap (λ m. lines_of m (refunded_line f roll)) (roll_length k) ∙ same_lines n (refunded_line f roll) (owner_line (with_refund l)) refunded_line_lem;
         shorts = k.shorts;
         balanced = omega (arith, k.balanced);
       }
 
   -- where a balance is left, every shortfall charge was refunded
-  pub refund-whole : 0 < (with_refund l).balance → (o : ℕ) → o < n → l.refund o ≡ 0 → (with_refund l).refund o ≡ l.short o
-  refund-whole left o b none =
+  pub refund_whole : 0 < (with_refund l).balance → (o : ℕ) → o < n → l.refund o ≡ 0 → (with_refund l).refund o ≡ l.short o
+  refund_whole left o b none =
       let e : repaid l ≡ l.shorts = omega arith in
       let s : share_of (repaid l) l.shorts l.short o ≡ l.short o = ap (λ r. share_of r l.shorts l.short o) e ∙ share_back l.shorts l.short o (omega (arith, up_to_at l.short o n b, k.shorts)) in
       omega (arith, s, none)
 
   -- close
-  pub close-kept : {f' : Figures} {loads loads' : List LoadLine} → CloseAccepted f roll loads f' loads' → Kept n (with_loads l loads) f' roll
-  close-kept h =
+  pub close_kept : {f' : Figures} {loads loads' : List LoadLine} → CloseAccepted f roll loads f' loads' → Kept n (with_loads l loads) f' roll
+  close_kept h =
       record { month = h.month_after ∙ ap after_close k.month; lines = k.lines; shorts = k.shorts; balanced = omega (arith, k.balanced) }
 
-  paid-line : (loads : List LoadLine) (j : ℕ) → (get_or loads j clear_load).paid.value ≡ pos 0 → l.paid j ≡ 0 → paid_line f.balance loads j ≡ load_line (with_loads l loads) loads j
-  paid-line loads j z none =
+  paid_line_lem : (loads : List LoadLine) (j : ℕ) → (get_or loads j clear_load).paid.value ≡ pos 0 → l.paid j ≡ 0 → paid_line f.balance loads j ≡ load_line (with_loads l loads) loads j
+  paid_line_lem loads j z none =
       let x = get_or loads j clear_load in
       let s = share_of l.balance (load_total loads) (mwh_in loads) j in
       let e : share_of f.balance (load_total loads) (mwh_in loads) j ≡ s = ap (λ g. share_of g.balance (load_total loads) (mwh_in loads) j) k.month in
       ap (paid_out x) e ∙ ap (λ v. load x.mwh (v +ℤ pos s)) z ∙ ap (λ (m : ℕ). load x.mwh (pos m)) (omega (arith, none))
 
-  pub close-loads : {f' : Figures} {loads loads' : List LoadLine} → ((j : ℕ) → l.paid j ≡ 0) → CloseAccepted f roll loads f' loads' → loads' ≡ lines_of (length loads) (load_line (with_loads l loads) loads)
-  close-loads {loads = loads} none h =
+  pub close_loads : {f' : Figures} {loads loads' : List LoadLine} → ((j : ℕ) → l.paid j ≡ 0) → CloseAccepted f roll loads f' loads' → loads' ≡ lines_of (length loads) (load_line (with_loads l loads) loads)
+  close_loads {loads = loads} none h =
       let ok = closable f roll loads h.tests in
-      h.loads_after ∙ same_lines (length loads) (paid_line f.balance loads) (load_line (with_loads l loads) loads) (λ j b. paid-line loads j (unpaid (get_or loads j clear_load) (every_at_lem load_ok loads j clear_load ok.sound b)) (none j))
+      h.loads_after ∙ same_lines (length loads) (paid_line f.balance loads) (load_line (with_loads l loads) loads) (λ j b. paid_line_lem loads j (unpaid (get_or loads j clear_load) (every_at_lem load_ok loads j clear_load ok.sound b)) (none j))
 
 -- a load that is paid a cent was paid of something
 pub paid_of : (s v : ℕ) (w : ℕ → ℕ) (j : ℕ) → 0 < share_of s v w j → 0 < s
-paid_of zero v w j h = absurd (omega (arith, share-none 0 v w refl j))
+paid_of zero v w j h = absurd (omega (arith, share_none 0 v w refl j))
 paid_of (suc s) v w j h = omega arith

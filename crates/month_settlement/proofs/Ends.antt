@@ -25,35 +25,35 @@ each_last n l (x ∷ ms) m h = each_last n (noted l x.event) ms m h.1
 
 -- a month whose hours are posted, of which l is the ledger, once it is refunded
 module _ (n : ℕ) (f₀ f f₁ : Figures) (roll₀ roll roll₁ : List RollLine) (l : Ledger) (st : Stands n f₀ roll₀) (r : RanTo f₀ roll₀ l f roll) (acc : RefundAccepted f roll f₁ roll₁) where
-  abbrev refundMoves : List Move
-  refundMoves = r.moves ++ (move (cell (is_open f) roll) refunded (cell (is_refunded f₁) roll₁) ∷ [])
+  abbrev refund_moves : List Move
+  refund_moves = r.moves ++ (move (cell (is_open f) roll) refunded (cell (is_refunded f₁) roll₁) ∷ [])
 
-  refund-chain : Chain (cell (is_open f₀) roll₀) refundMoves (cell (is_refunded f₁) roll₁)
-  refund-chain = chain_more _ r.moves _ _ refunded r.chain (refunds acc)
+  refund_chain : Chain (cell (is_open f₀) roll₀) refund_moves (cell (is_refunded f₁) roll₁)
+  refund_chain = chain_more _ r.moves _ _ refunded r.chain (refunds acc)
 
-  refund-ledger : ledger_from blank (events_of refundMoves) ≡ with_refund l
-  refund-ledger = ledger_more blank r.moves (cell (is_open f) roll) (cell (is_refunded f₁) roll₁) refunded ∙ ap with_refund r.ledger
+  refund_ledger : ledger_from blank (events_of refund_moves) ≡ with_refund l
+  refund_ledger = ledger_more blank r.moves (cell (is_open f) roll) (cell (is_refunded f₁) roll₁) refunded ∙ ap with_refund r.ledger
 
-  refund-holds : Holds n refundMoves (cell (is_refunded f₁) roll₁)
-  refund-holds = holds_alone n f₀ roll₀ st refundMoves (cell (is_refunded f₁) roll₁) refund-chain
+  refund_holds : Holds n refund_moves (cell (is_refunded f₁) roll₁)
+  refund_holds = holds_alone n f₀ roll₀ st refund_moves (cell (is_refunded f₁) roll₁) refund_chain
 
-  refund-test : refund_test (figures_of n l) (lines_of n (owner_line l)) ≡ None
-  refund-test =
+  refund_test_lem : refund_test (figures_of n l) (lines_of n (owner_line l)) ≡ None
+  refund_test_lem =
       let F : Figures → Type 0 = λ g. refund_test g roll ≡ None in
       let G : List RollLine → Type 0 = λ x. refund_test (figures_of n l) x ≡ None in
       subst G (ran_roll n st r) (subst F (ran_figures n st r) acc.tests)
 
   -- the test of close, by the ledger
-  close-by-ledger : (loads : List LoadLine) (o : Option Told) → close_test f₁ roll₁ loads ≡ o → close_test (figures_of n (with_refund l)) (lines_of n (owner_line (with_refund l))) loads ≡ o
-  close-by-ledger loads o h =
-      let fe : f₁ ≡ figures_of n (with_refund l) = refund-holds.month_of_ledger ∙ ap (figures_of n) refund-ledger in
-      let re : roll₁ ≡ lines_of n (owner_line (with_refund l)) = refund-holds.roll_of_ledger ∙ ap (λ (x : Ledger). lines_of n (owner_line x)) refund-ledger in
+  close_by_ledger : (loads : List LoadLine) (o : Option Told) → close_test f₁ roll₁ loads ≡ o → close_test (figures_of n (with_refund l)) (lines_of n (owner_line (with_refund l))) loads ≡ o
+  close_by_ledger loads o h =
+      let fe : f₁ ≡ figures_of n (with_refund l) = refund_holds.month_of_ledger ∙ ap (figures_of n) refund_ledger in
+      let re : roll₁ ≡ lines_of n (owner_line (with_refund l)) = refund_holds.roll_of_ledger ∙ ap (λ (x : Ledger). lines_of n (owner_line x)) refund_ledger in
       let F : Figures → Type 0 = λ g. close_test g roll₁ loads ≡ o in
       let G : List RollLine → Type 0 = λ x. close_test (figures_of n (with_refund l)) x loads ≡ o in
       subst G re (subst F fe h)
 
   end_test : (loads : List LoadLine) (o : Option Told) → close_test f₁ roll₁ loads ≡ o → ending_test n l loads ≡ o
-  end_test loads o h = ap (λ (t : Option Told). first_refusal t (close_test (figures_of n (with_refund l)) (lines_of n (owner_line (with_refund l))) loads)) refund-test ∙ close-by-ledger loads o h
+  end_test loads o h = ap (λ (t : Option Told). first_refusal t (close_test (figures_of n (with_refund l)) (lines_of n (owner_line (with_refund l))) loads)) refund_test_lem ∙ close_by_ledger loads o h
 
   -- and closed
   module _ (f₂ : Figures) (loads loads' : List LoadLine) (cl : CloseAccepted f₁ roll₁ loads f₂ loads') where
@@ -61,16 +61,16 @@ module _ (n : ℕ) (f₀ f f₁ : Figures) (roll₀ roll roll₁ : List RollLine
     closeMove = move (cell (is_refunded f₁) roll₁) (closed loads loads') (cell (is_closed f₂) roll₁)
 
     abbrev closeMoves : List Move
-    closeMoves = refundMoves ++ (closeMove ∷ [])
+    closeMoves = refund_moves ++ (closeMove ∷ [])
 
     pub close-ledger : ledger_from blank (events_of closeMoves) ≡ with_loads (with_refund l) loads
-    close-ledger = ledger_more blank refundMoves (cell (is_refunded f₁) roll₁) (cell (is_closed f₂) roll₁) (closed loads loads') ∙ ap (λ (x : Ledger). with_loads x loads) refund-ledger
+    close-ledger = ledger_more blank refund_moves (cell (is_refunded f₁) roll₁) (cell (is_closed f₂) roll₁) (closed loads loads') ∙ ap (λ (x : Ledger). with_loads x loads) refund_ledger
 
     pub close-holds : Holds n closeMoves (cell (is_closed f₂) roll₁)
-    close-holds = holds_alone n f₀ roll₀ st closeMoves (cell (is_closed f₂) roll₁) (chain_more _ refundMoves _ _ (closed loads loads') refund-chain (closes cl))
+    close-holds = holds_alone n f₀ roll₀ st closeMoves (cell (is_closed f₂) roll₁) (chain_more _ refund_moves _ _ (closed loads loads') refund_chain (closes cl))
 
     pub close-paid : loads' ≡ lines_of (length loads) (load_line (with_loads (with_refund l) loads) loads)
-    close-paid = each_last n blank refundMoves closeMove close-holds.events ∙ ap (λ (x : Ledger). lines_of (length loads) (load_line (with_loads x loads) loads)) refund-ledger
+    close-paid = each_last n blank refund_moves closeMove close-holds.events ∙ ap (λ (x : Ledger). lines_of (length loads) (load_line (with_loads x loads) loads)) refund_ledger
 
 month_test_lem : (m : Meaning) (n : ℕ) (packages : List (List ℕ)) (loads : List LoadLine) (o : Option Told) → roll_test n ≡ None → ending_test n (hours_ledger m n packages) loads ≡ o → month_test m n packages loads ≡ o
 month_test_lem m n packages loads o h e = ap (λ (t : Option Told). first_refusal t (ending_test n (hours_ledger m n packages) loads)) h ∙ e

@@ -32,8 +32,8 @@ lent_is m n k t e =
     ap (λ (s : List HourLine). posting_on m t s (replicate 1024 (pos 0))) (ap (λ (i : ℕ). take i (replicate 128 clear_hour)) (sub-zero k ∙ e) ∙ take_replicate (min n 128) 128 clear_hour (omega arith))
 
 module _ (m : Meaning) (n k : ℕ) (t : Tables) (ke : k ≡ min n 128) {f f' : Figures} {roll roll' : List RollLine} {s' : List HourLine} {x' : List ℤ} where
-  pub accepted-in : {a : HourAnswer} → PostAccepted f roll (posting_on m t (take (k - 0) (replicate 128 clear_hour)) (replicate 1024 (pos 0))) a f' roll' s' x' → PostAccepted f roll (posting_in m n t) a f' roll' s' x'
-  accepted-in {a = a} h = let F : Posting → Type 0 = λ p. PostAccepted f roll p a f' roll' s' x' in subst F (lent_is m n k t ke) h
+  pub accepted_in : {a : HourAnswer} → PostAccepted f roll (posting_on m t (take (k - 0) (replicate 128 clear_hour)) (replicate 1024 (pos 0))) a f' roll' s' x' → PostAccepted f roll (posting_in m n t) a f' roll' s' x'
+  accepted_in {a = a} h = let F : Posting → Type 0 = λ p. PostAccepted f roll p a f' roll' s' x' in subst F (lent_is m n k t ke) h
 
   pub refused_in_lem : {e : Told} → PostRefused f roll (posting_on m t (take (k - 0) (replicate 128 clear_hour)) (replicate 1024 (pos 0))) e f' roll' s' x' → PostRefused f roll (posting_in m n t) e f' roll' s' x'
   refused_in_lem {e = e} h = let F : Posting → Type 0 = λ p. PostRefused f roll p e f' roll' s' x' in subst F (lent_is m n k t ke) h

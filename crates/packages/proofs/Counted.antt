@@ -54,21 +54,21 @@ module _ (W : Result Hour Told) (j p : ℕ) (u : Hour) (bs : List ℕ) (seen : C
   unroll : (k : ℕ) → j ≡ suc k → W ≡ run (suc k) p u bs
   unroll k e = left ∙ ap (λ m. run m p u bs) e
 
-  at-end : (k : ℕ) → j ≡ suc k → frame_of bs ≡ End → W ≡ Ok u
+  at_end : (k : ℕ) → j ≡ suc k → frame_of bs ≡ End → W ≡ Ok u
   unfolding run
-  at-end k e q = unroll k e ∙ rw q
+  at_end k e q = unroll k e ∙ rw q
 
-  at-bad : (k : ℕ) → j ≡ suc k → frame_of bs ≡ Bad → W ≡ Err (refused_at 3 p)
+  at_bad : (k : ℕ) → j ≡ suc k → frame_of bs ≡ Bad → W ≡ Err (refused_at 3 p)
   unfolding run
-  at-bad k e q = unroll k e ∙ rw q
+  at_bad k e q = unroll k e ∙ rw q
 
   at_one : (k : ℕ) → j ≡ suc k → (l : ℕ) (f rest : List ℕ) (v : Hour) → frame_of bs ≡ One l f rest → takes p u l f ≡ Ok v → W ≡ run k (p + 1) v rest
   unfolding run
   at_one k e l f rest v q t = unroll k e ∙ rw (q, t)
 
-  at-refused : (k : ℕ) → j ≡ suc k → (l : ℕ) (f rest : List ℕ) (x : Told) → frame_of bs ≡ One l f rest → takes p u l f ≡ Err x → W ≡ Err x
+  at_refused : (k : ℕ) → j ≡ suc k → (l : ℕ) (f rest : List ℕ) (x : Told) → frame_of bs ≡ One l f rest → takes p u l f ≡ Err x → W ≡ Err x
   unfolding run
-  at-refused k e l f rest x q t = unroll k e ∙ rw (q, t)
+  at_refused k e l f rest x q t = unroll k e ∙ rw (q, t)
 
   more : (k : ℕ) × (j ≡ suc k)
   more = less j few
@@ -77,23 +77,23 @@ module _ (W : Result Hour Told) (j p : ℕ) (u : Hour) (bs : List ℕ) (seen : C
       less zero h = absurd (omega arith)
       less (suc k) h = (k, refl)
 
-  by-counts : (l : ℕ) (f : List ℕ) → answered counted (takes p u l f) ≡ count_takes p seen l f
-  by-counts l f = count_takes_lem p u l f ∙ ap (λ n. count_takes p n l f) same
+  by_counts : (l : ℕ) (f : List ℕ) → answered counted (takes p u l f) ≡ count_takes p seen l f
+  by_counts l f = count_takes_lem p u l f ∙ ap (λ n. count_takes p n l f) same
 
   pub ended : frame_of bs ≡ End → Ok seen ≡ answered counted W
-  ended q = sym (ap (answered counted) (at-end more.0 more.1 q) ∙ ap (λ n. Ok n) same)
+  ended q = sym (ap (answered counted) (at_end more.0 more.1 q) ∙ ap (λ n. Ok n) same)
 
   pub broken : frame_of bs ≡ Bad → Err (refused_at 3 p) ≡ answered counted W
-  broken q = sym (ap (answered counted) (at-bad more.0 more.1 q))
+  broken q = sym (ap (answered counted) (at_bad more.0 more.1 q))
 
   pub stepped : (q : ℕ) (l : ℕ) (f rest : List ℕ) (next : Counts) → q ≡ p + 1 → frame_of bs ≡ One l f rest → length rest + length f + 3 ≡ length bs → count_takes p seen l f ≡ Ok next → (k : ℕ) × (v : Hour) × (length rest < k) × (counted v ≡ next) × (W ≡ run k q v rest)
   stepped q l f rest next place fr n t =
-      let a = answered_inv counted (takes p u l f) next (by-counts l f ∙ t) in
+      let a = answered_inv counted (takes p u l f) next (by_counts l f ∙ t) in
       (more.0, a.0, omega (arith, more.1), a.2, at_one more.0 more.1 l f rest a.0 fr a.1 ∙ ap (λ m. run more.0 m a.0 rest) (sym place))
 
   pub stopped : (l : ℕ) (f rest : List ℕ) (e : Told) → frame_of bs ≡ One l f rest → count_takes p seen l f ≡ Err e → Err e ≡ answered counted W
-  stopped l f rest e q t = go (takes p u l f) refl (by-counts l f ∙ t)
+  stopped l f rest e q t = go (takes p u l f) refl (by_counts l f ∙ t)
     where
       go : (r : Result Hour Told) → takes p u l f ≡ r → answered counted r ≡ Err e → Err e ≡ answered counted W
       go (Ok v) w z = refused e (counted v) (sym z)
-      go (Err x) w z = sym (ap (answered counted) (at-refused more.0 more.1 l f rest x q w) ∙ z)
+      go (Err x) w z = sym (ap (answered counted) (at_refused more.0 more.1 l f rest x q w) ∙ z)

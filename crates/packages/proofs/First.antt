@@ -38,13 +38,13 @@ module _ (bs : List ℕ) (k l : ℕ) (f rest : List ℕ) (d : DayRow) (b : Bytes
       ap (on_first k) fr ∙ ap (λ c. cond c (after (decode_day 0 f) (λ x. run k 1 (hour x [] [] []) rest)) (Err (refused_at 4 0))) a
       ∙ ap (λ r. after r (λ x. run k 1 (hour x [] [] []) rest)) e
 
-  rest-bytes : Bytes rest
-  rest-bytes = bytes_right (framed l f) rest (subst Bytes (frame_canon (drop 5 bs) l f rest (bytes_drop 5 bs b) fr) (bytes_drop 5 bs b))
+  rest_bytes : Bytes rest
+  rest_bytes = bytes_right (framed l f) rest (subst Bytes (frame_canon (drop 5 bs) l f rest (bytes_drop 5 bs b) fr) (bytes_drop 5 bs b))
 
   made : (n : Counts) → answered counted (run k 1 (hour d [] [] []) rest) ≡ Ok n → (h : Hour) × (run k 1 (hour d [] [] []) rest ≡ Ok h) × (counted h ≡ n) × Good h × (h.day ≡ d)
   made n q =
       let a = answered_inv counted (run k 1 (hour d [] [] []) rest) n q in
-      let r = run_canon k 1 (hour d [] [] []) a.0 rest rest-bytes (new_good d) a.1 in
+      let r = run_canon k 1 (hour d [] [] []) a.0 rest rest_bytes (new_good d) a.1 in
       (a.0, a.1, a.2, r.1, r.2)
 
   pub few : (n : Counts) → answered counted (run k 1 (hour d [] [] []) rest) ≡ Ok n → n.points * n.constraints < 2 ^ 64
@@ -55,8 +55,8 @@ module _ (bs : List ℕ) (k l : ℕ) (f rest : List ℕ) (d : DayRow) (b : Bytes
       let w : n.points * n.constraints ≤ 256 * 32 = mul-le-mul {n₂ = 256} {m₂ = 32} p c in
       omega arith
 
-  pub told-good : (n : Counts) → answered counted (run k 1 (hour d [] [] []) rest) ≡ Ok n → Ok (seen_by d n) ≡ answered told_of (on_first k (frame_of (drop 5 bs)))
-  told-good n q =
+  pub told_good : (n : Counts) → answered counted (run k 1 (hour d [] [] []) rest) ≡ Ok n → Ok (seen_by d n) ≡ answered told_of (on_first k (frame_of (drop 5 bs)))
+  told_good n q =
       let m = made n q in
       let h = m.0 in
       let s : told_of m.0 ≡ seen_by m.0.day (counted m.0) =
@@ -64,8 +64,8 @@ module _ (bs : List ℕ) (k l : ℕ) (f rest : List ℕ) (d : DayRow) (b : Bytes
       ∙ ap (λ x. record { day = m.0.day; constraints = length m.0.constraints; points = length m.0.points; factors = x; holdings = length m.0.holdings }) (rows_length (length m.0.constraints) m.0.points m.3.points) in
       sym (ap (answered told_of) (onward ∙ m.1) ∙ ap (λ (x : Seen). Ok x) (s ∙ ap (λ x. seen_by x (counted m.0)) m.4 ∙ ap (seen_by d) m.2))
 
-  pub told-refused : (x : Told) → answered counted (run k 1 (hour d [] [] []) rest) ≡ Err x → Err x ≡ answered told_of (on_first k (frame_of (drop 5 bs)))
-  told-refused x q = go (run k 1 (hour d [] [] []) rest) onward q
+  pub told_refused : (x : Told) → answered counted (run k 1 (hour d [] [] []) rest) ≡ Err x → Err x ≡ answered told_of (on_first k (frame_of (drop 5 bs)))
+  told_refused x q = go (run k 1 (hour d [] [] []) rest) onward q
     where
       go : (r : Result Hour Told) → on_first k (frame_of (drop 5 bs)) ≡ r → answered counted r ≡ Err x → Err x ≡ answered told_of (on_first k (frame_of (drop 5 bs)))
       go (Ok h) w z = refused x (counted h) (sym z)

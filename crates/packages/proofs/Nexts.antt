@@ -45,11 +45,11 @@ module _ {X : Type 0} (row : List ℕ → Option X) (l : ℕ) (ks : List (Spelt 
   frame : frame_of bs ≡ One l here.it.fields (records l (drop (i + 1) ks) ++ more)
   frame = next_frame (IsRead row) l (λ k. k.fields) ks i bs more here here.holds.0 left
 
-  pub some-record : ((m : ℕ) (f rest : List ℕ) → frame_of bs ≡ One m f rest → ⊥) → ⊥
-  some-record none = none l here.it.fields (records l (drop (i + 1) ks) ++ more) frame
+  pub some_record : ((m : ℕ) (f rest : List ℕ) → frame_of bs ≡ One m f rest → ⊥) → ⊥
+  some_record none = none l here.it.fields (records l (drop (i + 1) ks) ++ more) frame
 
-  pub some-row : (m : ℕ) (f rest : List ℕ) → frame_of bs ≡ One m f rest → None ≡ row f → ⊥
-  some-row m f rest fr e =
+  pub some_row : (m : ℕ) (f rest : List ℕ) → frame_of bs ≡ One m f rest → None ≡ row f → ⊥
+  some_row m f rest fr e =
       let fr2 = frame in
       let h = here.holds.1 in
       let s : f ≡ here.it.fields = cc in
@@ -58,8 +58,8 @@ module _ {X : Type 0} (row : List ℕ → Option X) (l : ℕ) (ks : List (Spelt 
       let z : ◌≡◌ {A = ℕ} 0 1 = cc in
       omega arith
 
-  pub row-stored : (m : ℕ) (f rest : List ℕ) (t : List X) (x : X) → frame_of bs ≡ One m f rest → Some x ≡ row f → i < length t → take i t ≡ rows_of (take i ks) → (rest ≡ records l (drop (i + 1) ks) ++ more) × (take (i + 1) (set t i x) ≡ rows_of (take (i + 1) ks))
-  row-stored m f rest t x fr e room done =
+  pub row_stored : (m : ℕ) (f rest : List ℕ) (t : List X) (x : X) → frame_of bs ≡ One m f rest → Some x ≡ row f → i < length t → take i t ≡ rows_of (take i ks) → (rest ≡ records l (drop (i + 1) ks) ++ more) × (take (i + 1) (set t i x) ≡ rows_of (take (i + 1) ks))
+  row_stored m f rest t x fr e room done =
       let fr2 = frame in
       let h = here.holds.1 in
       let s : f ≡ here.it.fields = cc in
@@ -77,15 +77,15 @@ module _ (n : ℕ) (xs : List Placed) (more : List ℕ) (a : All (IsPlaced n) xs
   there : At xs i (IsPlaced n)
   there = at (IsPlaced n) xs i lt a
 
-  placed-frame : frame_of bs ≡ One 80 (encode_placed there.it) (records_of 80 encode_placed (drop (i + 1) xs) ++ more)
-  placed-frame = next_frame (IsPlaced n) 80 encode_placed xs i bs more there there.holds.0 left
+  placed_frame : frame_of bs ≡ One 80 (encode_placed there.it) (records_of 80 encode_placed (drop (i + 1) xs) ++ more)
+  placed_frame = next_frame (IsPlaced n) 80 encode_placed xs i bs more there there.holds.0 left
 
-  pub some-point : ((m : ℕ) (f rest : List ℕ) → frame_of bs ≡ One m f rest → ⊥) → ⊥
-  some-point none = none 80 (encode_placed there.it) (records_of 80 encode_placed (drop (i + 1) xs) ++ more) placed-frame
+  pub some_point : ((m : ℕ) (f rest : List ℕ) → frame_of bs ≡ One m f rest → ⊥) → ⊥
+  some_point none = none 80 (encode_placed there.it) (records_of 80 encode_placed (drop (i + 1) xs) ++ more) placed_frame
 
-  pub point-row : (m : ℕ) (f rest : List ℕ) → frame_of bs ≡ One m f rest → (rest ≡ records_of 80 encode_placed (drop (i + 1) xs) ++ more) × (13 ≤ length f) × (length (factors_at (drop 13 f)) ≡ n) × (factors_of (take (i + 1) xs) ≡ factors_of (take i xs) ++ factors_at (drop 13 f))
-  point-row m f rest fr =
-      let fr2 = placed-frame in
+  pub point_row : (m : ℕ) (f rest : List ℕ) → frame_of bs ≡ One m f rest → (rest ≡ records_of 80 encode_placed (drop (i + 1) xs) ++ more) × (13 ≤ length f) × (length (factors_at (drop 13 f)) ≡ n) × (factors_of (take (i + 1) xs) ≡ factors_of (take i xs) ++ factors_at (drop 13 f))
+  point_row m f rest fr =
+      let fr2 = placed_frame in
       let s : f ≡ encode_placed there.it = cc in
       let r : rest ≡ records_of 80 encode_placed (drop (i + 1) xs) ++ more = cc in
       let l = placed_length there.it in

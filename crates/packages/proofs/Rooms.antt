@@ -22,21 +22,21 @@ pub laid_ok : {X : Type 0} (R : Result Tables Told) (t : Tables) (f : Tables →
 laid_ok R t f w q = ap (λ r. laid r f w) (sym q)
 
 module _ (R : Result Tables Told) (a b c d : ℕ) where
-  pub room-err : (e : Told) → Err e ≡ answered seen_of R → roomed a b c d R ≡ Err e
-  room-err e q = go R q
+  pub room_err : (e : Told) → Err e ≡ answered seen_of R → roomed a b c d R ≡ Err e
+  room_err e q = go R q
     where
       go : (r : Result Tables Told) → Err e ≡ answered seen_of r → roomed a b c d r ≡ Err e
       go (Ok t) q = refused e (seen_of t) q
       go (Err x) q = cc
 
-  pub room-short : (s : Seen) → Ok s ≡ answered seen_of R → room s a b c d ≡ false → roomed a b c d R ≡ Err (refused_at 7 0)
-  room-short s q n =
+  pub room_short : (s : Seen) → Ok s ≡ answered seen_of R → room s a b c d ≡ false → roomed a b c d R ≡ Err (refused_at 7 0)
+  room_short s q n =
       let v = answered_inv seen_of R s (sym q) in
       let m : room (seen_of v.0) a b c d ≡ false = ap (λ x. room x a b c d) v.2 ∙ n in
       ap (roomed a b c d) v.1 ∙ ap (λ x. cond x (Ok v.0) (Err (refused_at 7 0))) m
 
-  pub room-good : (s : Seen) → Ok s ≡ answered seen_of R → room s a b c d ≡ true → (t : Tables) × (R ≡ Ok t) × (seen_of t ≡ s) × (roomed a b c d R ≡ Ok t)
-  room-good s q n =
+  pub room_good : (s : Seen) → Ok s ≡ answered seen_of R → room s a b c d ≡ true → (t : Tables) × (R ≡ Ok t) × (seen_of t ≡ s) × (roomed a b c d R ≡ Ok t)
+  room_good s q n =
       let v = answered_inv seen_of R s (sym q) in
       let m : room (seen_of v.0) a b c d ≡ true = ap (λ x. room x a b c d) v.2 ∙ n in
       (v.0, v.1, v.2, ap (roomed a b c d) v.1 ∙ ap (λ x. cond x (Ok v.0) (Err (refused_at 7 0))) m)

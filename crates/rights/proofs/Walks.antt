@@ -49,12 +49,12 @@ module _ (hs : List HoldingRow) (place : ℕ) (inside : place < length hs) where
       let more = some_more p hs k no_holding (omega (arith, w.within)) in
       sym (ap (λ m. some p (take m hs)) is ∙ more ∙ ap (λ u. some p (take k hs) || u) match) ∙ w.rest
 
-  pub walk-on : (n k : ℕ) → n ≡ suc k → Walk hs place n → same_right (get_or hs k no_holding) (get_or hs place no_holding) ≡ false → Walk hs place k
-  walk-on n k is w other =
+  pub walk_on : (n k : ℕ) → n ≡ suc k → Walk hs place n → same_right (get_or hs k no_holding) (get_or hs place no_holding) ≡ false → Walk hs place k
+  walk_on n k is w other =
       record { within = omega (arith, w.within); rest = sym (or-false (some (λ e. same_right e (get_or hs place no_holding)) (take k hs))) ∙ rest_more n k false is w other }
 
-  pub walk-found : (n k : ℕ) → n ≡ suc k → Walk hs place n → same_right (get_or hs k no_holding) (get_or hs place no_holding) ≡ true → true ≡ repeated_at hs place
-  walk-found n k is w same =
+  pub walk_found : (n k : ℕ) → n ≡ suc k → Walk hs place n → same_right (get_or hs k no_holding) (get_or hs place no_holding) ≡ true → true ≡ repeated_at hs place
+  walk_found n k is w same =
       sym (or-true (some (λ e. same_right e (get_or hs place no_holding)) (take k hs))) ∙ rest_more n k true is w same
 
   -- on to the last of the bucket among those that are left

@@ -27,10 +27,10 @@ up_to_le f m zero = rw (add-zero m) (omega arith)
 up_to_le f m (suc k) = rw (add-suc m k) (omega (arith, up_to_le f m k))
 
 module _ {L : Type 0} (weight : L → ℕ) where
-  pub upTo-cons : (x : L) (xs : List L) (d : L) (i : ℕ) → up_to (weights_of weight (x ∷ xs) d) (suc i) ≡ weight x + up_to (weights_of weight xs d) i
-  upTo-cons x xs d zero = omega arith
-  upTo-cons x xs d (suc i) = omega (arith, upTo-cons x xs d i)
+  pub up_to_cons : (x : L) (xs : List L) (d : L) (i : ℕ) → up_to (weights_of weight (x ∷ xs) d) (suc i) ≡ weight x + up_to (weights_of weight xs d) i
+  up_to_cons x xs d zero = omega arith
+  up_to_cons x xs d (suc i) = omega (arith, up_to_cons x xs d i)
 
-  pub upTo-all : (xs : List L) (d : L) → up_to (weights_of weight xs d) (length xs) ≡ sum_by weight xs
-  upTo-all [] d = refl
-  upTo-all (x ∷ xs) d = omega (arith, upTo-cons x xs d (length xs), upTo-all xs d, sum_by-cons weight x xs)
+  pub up_to_all : (xs : List L) (d : L) → up_to (weights_of weight xs d) (length xs) ≡ sum_by weight xs
+  up_to_all [] d = refl
+  up_to_all (x ∷ xs) d = omega (arith, up_to_cons x xs d (length xs), up_to_all xs d, sum_by-cons weight x xs)

@@ -3,18 +3,18 @@ use Rattle.std.proofs.Common.{◌≡◌, ℕ, zero, suc, ◌+◌, ◌-◌, ◌*�
 use Rattle.std.specs.List.{AllByRecursion as All}
 use Rattle.std.proofs.lemmas.List.{drop_more, take_more_set, drop-set-lt, append_assoc, take_all, drop_all, append-nil}
 use Rattle.sharing.specs.Shares.{up_to, share_of, weights_of}
-use Rattle.sharing.proofs.Parts.{upTo-cons}
+use Rattle.sharing.proofs.Parts.{up_to_cons}
 
 -- the share of a line of weight w after lines of weight b
 abbrev pub share_after : (s v b w : ℕ) → ℕ
 share_after s v b w = s * (b + w) / v - s * b / v
 
 module _ {L : Type 0} where
-  pub all-step : (P : L → Type 0) (xs : List L) (i : ℕ) (d : L) → i < length xs → All P (drop i xs) → P (get_or xs i d) × All P (drop (i + 1) xs)
-  all-step P xs i d h a = let F : List L → Type 0 = λ l. All P l in subst F (drop_more xs i d h) a
+  pub all_step : (P : L → Type 0) (xs : List L) (i : ℕ) (d : L) → i < length xs → All P (drop i xs) → P (get_or xs i d) × All P (drop (i + 1) xs)
+  all_step P xs i d h a = let F : List L → Type 0 = λ l. All P l in subst F (drop_more xs i d h) a
 
-  pub drop-after : (xs : List L) (i : ℕ) (y : L) → drop (i + 1) (set xs i y) ≡ drop (i + 1) xs
-  drop-after xs i y = drop-set-lt (i + 1) xs i y (omega arith)
+  pub drop_after : (xs : List L) (i : ℕ) (y : L) → drop (i + 1) (set xs i y) ≡ drop (i + 1) xs
+  drop_after xs i y = drop-set-lt (i + 1) xs i y (omega arith)
 
   module _ (weight : L → ℕ) (given : L → ℕ → L) where
     -- lines after lines of weight b, each with its share
@@ -24,7 +24,7 @@ module _ {L : Type 0} where
 
     pub shared-more : (s v b : ℕ) (xs : List L) (i : ℕ) (d y : L) → i < length xs → y ≡ given (get_or xs i d) (share_after s v b (weight (get_or xs i d))) → take (i + 1) (set xs i y) ++ sharedFrom s v (b + weight (get_or xs i d)) (drop (i + 1) (set xs i y)) ≡ take i xs ++ sharedFrom s v b (drop i xs)
     shared-more s v b xs i d y h e =
-        rw (take_more_set xs i y h, drop-after xs i y, append_assoc (take i xs) (y ∷ []), drop_more xs i d h, e)
+        rw (take_more_set xs i y h, drop_after xs i y, append_assoc (take i xs) (y ∷ []), drop_more xs i d h, e)
 
     pub shared-all : (s v b : ℕ) (xs : List L) (i : ℕ) → length xs ≤ i → take i xs ++ sharedFrom s v b (drop i xs) ≡ xs
     shared-all s v b xs i h = rw (take_all i xs h, drop_all i xs h) (append-nil xs)
@@ -39,7 +39,7 @@ module _ {L : Type 0} where
     shared_at s v b (x ∷ xs) d zero h =
         ap (given x) (ap (λ (k : ℕ). s * (b + k) / v - s * b / v) (omega arith) ∙ ap (λ (k : ℕ). s * (b + (0 + weight x)) / v - s * k / v) (omega arith))
     shared_at s v b (x ∷ xs) d (suc i) h =
-        shared_at s v (b + weight x) xs d i (omega arith) ∙ ap (given (get_or xs i d)) (ap (λ (k : ℕ). s * k / v - s * (b + weight x + up_to (weights_of weight xs d) i) / v) (omega (arith, upTo-cons weight x xs d (suc i))) ∙ ap (λ (k : ℕ). s * (b + up_to (weights_of weight (x ∷ xs) d) (suc (suc i))) / v - s * k / v) (omega (arith, upTo-cons weight x xs d i)))
+        shared_at s v (b + weight x) xs d i (omega arith) ∙ ap (given (get_or xs i d)) (ap (λ (k : ℕ). s * k / v - s * (b + weight x + up_to (weights_of weight xs d) i) / v) (omega (arith, up_to_cons weight x xs d (suc i))) ∙ ap (λ (k : ℕ). s * (b + up_to (weights_of weight (x ∷ xs) d) (suc (suc i))) / v - s * k / v) (omega (arith, up_to_cons weight x xs d i)))
 
     pub shared-out : (s v : ℕ) (xs : List L) (d : L) (i : ℕ) → i < length xs → get_or (sharedFrom s v 0 xs) i d ≡ given (get_or xs i d) (share_of s v (weights_of weight xs d) i)
     shared-out s v xs d i h =

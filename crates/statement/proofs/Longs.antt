@@ -78,18 +78,18 @@ module _ (hs : List HoldingRow) (zs : List ℤ) (i : ℕ) (h : i < length hs) (s
   abbrev line : List ℕ
   line = holding_line i (get_or hs i blank).owner (get_or zs i (pos 0))
 
-  pub next-line : holding_lines 0 (take (i + 1) hs) (take (i + 1) zs) ≡ holding_lines 0 (take i hs) (take i zs) ++ line
-  next-line =
+  pub next_line : holding_lines 0 (take (i + 1) hs) (take (i + 1) zs) ≡ holding_lines 0 (take i hs) (take i zs) ++ line
+  next_line =
       let n = sizes_inv (length hs) (length zs) s in
       let z : 0 + i ≡ i = omega arith in
       lines_more 0 i hs zs blank (pos 0) h (omega arith) ∙ ap (λ k. holding_lines 0 (take i hs) (take i zs) ++ holding_line k (get_or hs i blank).owner (get_or zs i (pos 0))) z
 
-  pub next-long : length (holding_lines 0 (take (i + 1) hs) (take (i + 1) zs)) ≡ length (holding_lines 0 (take i hs) (take i zs)) + length line
-  next-long = ap length next-line ∙ length-append (holding_lines 0 (take i hs) (take i zs)) line
+  pub next_long : length (holding_lines 0 (take (i + 1) hs) (take (i + 1) zs)) ≡ length (holding_lines 0 (take i hs) (take i zs)) + length line
+  next_long = ap length next_line ∙ length-append (holding_lines 0 (take i hs) (take i zs)) line
 
-  pub line-room : (start at : ℕ) (was out : List ℕ) → Wrote was start (holding_lines 0 (take i hs) (take i zs)) at out → at ≤ start + 53 * i → Room (length was) (start + 53 * length hs) (start + length (holding_lines 0 hs zs)) → Room (length out) (at + 53) (at + length line)
-  line-room start at was out w b (inl p) = inl (omega (arith, w.len))
-  line-room start at was out w b (inr p) = inr (omega (arith, next-long, lines_front 0 (i + 1) hs zs, w.end, w.len))
+  pub line_room : (start at : ℕ) (was out : List ℕ) → Wrote was start (holding_lines 0 (take i hs) (take i zs)) at out → at ≤ start + 53 * i → Room (length was) (start + 53 * length hs) (start + length (holding_lines 0 hs zs)) → Room (length out) (at + 53) (at + length line)
+  line_room start at was out w b (inl p) = inl (omega (arith, w.len))
+  line_room start at was out w b (inr p) = inr (omega (arith, next_long, lines_front 0 (i + 1) hs zs, w.end, w.len))
 
   pub line_more : (start at to : ℕ) (was out next : List ℕ) → Wrote was start (holding_lines 0 (take i hs) (take i zs)) at out → Wrote out at line to next → Wrote was start (holding_lines 0 (take (i + 1) hs) (take (i + 1) zs)) to next
-  line_more start at to was out next w v = subst (λ (bs : List ℕ). Wrote was start bs to next) (sym next-line) (joined was out next start at to (holding_lines 0 (take i hs) (take i zs)) line w v)
+  line_more start at to was out next w v = subst (λ (bs : List ℕ). Wrote was start bs to next) (sym next_line) (joined was out next start at to (holding_lines 0 (take i hs) (take i zs)) line w v)

@@ -11,7 +11,7 @@ use Rattle.buffer.specs.Writes.{Wrote}
 use Rattle.buffer.proofs.Joins.{joined}
 use Rattle.format.specs.Hours.{records_of, placed}
 use Rattle.format.proofs.Ways.{placed_long}
-use Rattle.writer.proofs.Runs.{record-room, record-more}
+use Rattle.writer.proofs.Runs.{record_room, record_more}
 
 abbrev placed_row : PointRow → List ℤ → Placed
 placed_row p row = record { point = p; factors = row }
@@ -35,8 +35,8 @@ parts n p row e =
     ap (λ k. be2 k ++ (80 ∷ encode_placed (placed_row p row))) m
 
 module _ (n : ℕ) (ps : List PointRow) (fs : List ℤ) (i first : ℕ) (p : PointRow) (lt : i < length ps) (is : p ≡ get_or ps i p) (fe : first ≡ i * n) (fl : length fs ≡ length ps * n) where
-  pub row-end : first + n ≤ length fs
-  row-end =
+  pub row_end : first + n ≤ length fs
+  row_end =
       let m = suc-mul i n in
       let h : suc i * n ≤ length ps * n = mul-le-mul_right {m = suc i} {n = length ps} n (omega arith) in
       omega arith
@@ -51,8 +51,8 @@ module _ (n : ℕ) (ps : List PointRow) (fs : List ℤ) (i first : ℕ) (p : Poi
   abbrev row : List ℤ
   row = take (first + n - first) (drop first fs)
 
-  row-long : length row ≡ n
-  row-long = let d = length-drop first fs in let e = row-end in length-take-le (first + n - first) (drop first fs) (omega arith) ∙ omega arith
+  row_long : length row ≡ n
+  row_long = let d = length-drop first fs in let e = row_end in length-take-le (first + n - first) (drop first fs) (omega arith) ∙ omega arith
 
   it : placed_row p row ≡ placed_row p (take n (drop (i * n) fs))
   it =
@@ -68,18 +68,18 @@ module _ (n : ℕ) (ps : List PointRow) (fs : List ℤ) (i first : ℕ) (p : Poi
   module _ (was out : List ℕ) (start at : ℕ) (w : Wrote was start (records_of 80 encode_placed (take i (placed n ps fs))) at out) (room : start + length (records_of 80 encode_placed (placed n ps fs)) ≤ length was) where
     whole_room : at + (16 + 2 * n) ≤ length out
     whole_room =
-        let r = record-room 80 encode_placed (placed n ps fs) i (placed_row p row) long at_i was out start at w room in
+        let r = record_room 80 encode_placed (placed n ps fs) i (placed_row p row) long at_i was out start at w room in
         let l = placed_length (placed_row p row) in
-        let m = row-long in
+        let m = row_long in
         omega arith
 
     pub head-room : at + 16 ≤ length out
     head-room = let r = whole_room in omega arith
 
     pub row_room : (to : ℕ) (mid : List ℕ) → Wrote out at (be2 (14 + 2 * n) ++ (80 ∷ encode_point p)) to mid → to + 2 * length row ≤ length mid
-    row_room to mid v = let r = whole_room in let m = row-long in omega (arith, v.end, v.len)
+    row_room to mid v = let r = whole_room in let m = row_long in omega (arith, v.end, v.len)
 
     pub point-more : (to end : ℕ) (mid next : List ℕ) → Wrote out at (be2 (14 + 2 * n) ++ (80 ∷ encode_point p)) to mid → Wrote mid to (encode_factors row) end next → Wrote was start (records_of 80 encode_placed (take (i + 1) (placed n ps fs))) end next
     point-more to end mid next v x =
-        record-more 80 encode_placed (placed n ps fs) i (placed_row p row) long at_i was out start at w end next
-        (subst (λ (bs : List ℕ). Wrote out at bs end next) (parts n p row row-long) (joined out mid next at to end (be2 (14 + 2 * n) ++ (80 ∷ encode_point p)) (encode_factors row) v x))
+        record_more 80 encode_placed (placed n ps fs) i (placed_row p row) long at_i was out start at w end next
+        (subst (λ (bs : List ℕ). Wrote out at bs end next) (parts n p row row_long) (joined out mid next at to end (be2 (14 + 2 * n) ++ (80 ∷ encode_point p)) (encode_factors row) v x))

@@ -24,15 +24,15 @@ records_front l f (suc n) (x ∷ xs) =
 
 -- there is room for one more record, and with it one more was written
 module _ {X : Type 0} (l : ℕ) (f : X → List ℕ) (xs : List X) (i : ℕ) (x : X) (lt : i < length xs) (is : x ≡ get_or xs i x) (was out : List ℕ) (start at : ℕ) (w : Wrote was start (records_of l f (take i xs)) at out) where
-  pub record-room : start + length (records_of l f xs) ≤ length was → at + length (framed l (f x)) ≤ length out
-  record-room h =
+  pub record_room : start + length (records_of l f xs) ≤ length was → at + length (framed l (f x)) ≤ length out
+  record_room h =
       let m = ap length (records_more l f xs i x lt is) in
       let a = length-append (records_of l f (take i xs)) (framed l (f x)) in
       let b = records_front l f (i + 1) xs in
       omega (arith, w.end, w.len)
 
-  pub record-more : (to : ℕ) (next : List ℕ) → Wrote out at (framed l (f x)) to next → Wrote was start (records_of l f (take (i + 1) xs)) to next
-  record-more to next v = subst (λ (bs : List ℕ). Wrote was start bs to next) (sym (records_more l f xs i x lt is)) (joined was out next start at to (records_of l f (take i xs)) (framed l (f x)) w v)
+  pub record_more : (to : ℕ) (next : List ℕ) → Wrote out at (framed l (f x)) to next → Wrote was start (records_of l f (take (i + 1) xs)) to next
+  record_more to next v = subst (λ (bs : List ℕ). Wrote was start bs to next) (sym (records_more l f xs i x lt is)) (joined was out next start at to (records_of l f (take i xs)) (framed l (f x)) w v)
 
 factors_push : (xs : List ℤ) (x : ℤ) → encode_factors (xs ++ (x ∷ [])) ≡ encode_factors xs ++ twos2 x
 factors_push [] x = append-nil (twos2 x)

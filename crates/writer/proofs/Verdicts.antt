@@ -23,15 +23,15 @@ day_ok_lem d =
     rw (a, b, w, e, f, r)
 
 module _ (t : Tables) (room : ℕ) (s : sizes_ok t ≡ true) (b : bad_entry t ≡ None) where
-  tested-so : writes t room ≡ cond (leb (length (package_of (hour_of t))) room) (Ok (package_of (hour_of t))) (Err (refused_at 7 0))
-  tested-so = ap (λ x. tested x (bad_entry t) (package_of (hour_of t)) room) s ∙ ap (λ o. tested true o (package_of (hour_of t)) room) b
+  tested_so : writes t room ≡ cond (leb (length (package_of (hour_of t))) room) (Ok (package_of (hour_of t))) (Err (refused_at 7 0))
+  tested_so = ap (λ x. tested x (bad_entry t) (package_of (hour_of t)) room) s ∙ ap (λ o. tested true o (package_of (hour_of t)) room) b
 
   pub writes_short : room < length (package_of (hour_of t)) → writes t room ≡ Err (refused_at 7 0)
   writes_short h =
       let l : leb (length (package_of (hour_of t))) room ≡ false = lt-leb _ _ h in
-      tested-so ∙ ap (λ x. cond x (Ok (package_of (hour_of t))) (Err (refused_at 7 0))) l
+      tested_so ∙ ap (λ x. cond x (Ok (package_of (hour_of t))) (Err (refused_at 7 0))) l
 
-  pub writes-good : length (package_of (hour_of t)) ≤ room → writes t room ≡ Ok (package_of (hour_of t))
-  writes-good h =
+  pub writes_good : length (package_of (hour_of t)) ≤ room → writes t room ≡ Ok (package_of (hour_of t))
+  writes_good h =
       let l : leb (length (package_of (hour_of t))) room ≡ true = le-leb _ _ h in
-      tested-so ∙ ap (λ x. cond x (Ok (package_of (hour_of t))) (Err (refused_at 7 0))) l
+      tested_so ∙ ap (λ x. cond x (Ok (package_of (hour_of t))) (Err (refused_at 7 0))) l

@@ -3,8 +3,8 @@ use Rattle.std.specs.List.{AllByRecursion as All}
 use Rattle.std.proofs.lemmas.List.Sums.{sum_by-drop_more}
 use Rattle.sharing.specs.Shares.{weights_of}
 use Rattle.sharing.proofs.Laws.{fair}
-use Rattle.sharing.proofs.Parts.{part_mono, part_le, upTo-all}
-use Rattle.sharing.proofs.Steps.{share_after, sharedFrom, all-step, drop-after, shared-more, shared-all, shared-out, length-shared}
+use Rattle.sharing.proofs.Parts.{part_mono, part_le, up_to_all}
+use Rattle.sharing.proofs.Steps.{share_after, sharedFrom, all_step, drop_after, shared-more, shared-all, shared-out, length-shared}
 use Rattle.sharing.proofs.share.Goals as goal
 
 pub overflow_add-seen : goal.overflow_add-seen
@@ -14,7 +14,7 @@ overflow_add-seen g c =
 pub give-done-requires : goal.give-done-requires
 give-done-requires g c =
     let m = g.L.Line in
-    let r = all-step (λ x. (m.had x +ℤ pos c.args.sum) <ℤ pos (2 ^ 63)) c.loop-line.lines c.loop-line.line-index c.line-item.result (omega arith) c.loop-line.invariant.2 in
+    let r = all_step (λ x. (m.had x +ℤ pos c.args.sum) <ℤ pos (2 ^ 63)) c.loop-line.lines c.loop-line.line-index c.line-item.result (omega arith) c.loop-line.invariant.2 in
     let step = sum_by-drop_more m.weight c.loop-line.lines c.loop-line.line-index c.line-item.result (omega arith) in
     record {
       small = (c.requires.small.0, omega (arith, c.weighs-seen.ensures, step, c.loop-line.invariant.1, c.requires.small));
@@ -37,10 +37,10 @@ loop-line-preserved g c =
     let w = c.weighs-seen.ensures in
     let e : y ≡ m.given (get_or xs i d) (share_after s v b (m.weight (get_or xs i d))) =
     c.give-done.ensures.given ∙ ap (m.given (get_or xs i d)) (rw (c.loop-line.invariant.3, w) refl) in
-    let r = all-step (λ x. (m.had x +ℤ pos s) <ℤ pos (2 ^ 63)) xs i d h c.loop-line.invariant.2 in (
+    let r = all_step (λ x. (m.had x +ℤ pos s) <ℤ pos (2 ^ 63)) xs i d h c.loop-line.invariant.2 in (
       ap (λ k. take (i + 1) (set xs i y) ++ sharedFrom m.weight m.given s v (b + k) (drop (i + 1) (set xs i y))) w ∙ shared-more m.weight m.given s v b xs i d y h e ∙ c.loop-line.invariant.0,
-      rw (drop-after xs i y) (omega (arith, w, sum_by-drop_more m.weight xs i d h, c.loop-line.invariant.1)),
-      (let F : _ = All (λ x. (m.had x +ℤ pos s) <ℤ pos (2 ^ 63)) in subst F (sym (drop-after xs i y)) r.1),
+      rw (drop_after xs i y) (omega (arith, w, sum_by-drop_more m.weight xs i d h, c.loop-line.invariant.1)),
+      (let F : _ = All (λ x. (m.had x +ℤ pos s) <ℤ pos (2 ^ 63)) in subst F (sym (drop_after xs i y)) r.1),
       c.give-done.ensures.upto,
     )
 
@@ -54,5 +54,5 @@ returns g c =
     record {
       shared = λ d i h. ap (λ l. get_or l i d) e ∙ shared-out m.weight m.given s v xs d i h;
       kept = ap length e ∙ length-shared m.weight m.given s v 0 xs;
-      fair = λ d. fair s v (weights_of m.weight xs d) (length xs) (upTo-all m.weight xs d ∙ c.requires.weighed) c.requires.zero;
+      fair = λ d. fair s v (weights_of m.weight xs d) (length xs) (up_to_all m.weight xs d ∙ c.requires.weighed) c.requires.zero;
     }

@@ -1,7 +1,7 @@
 use Rattle.std.proofs.Common.{◌≡◌, ℕ, length, get_or, ap, ◌∙◌, arith}
 use Rattle.ledger.specs.Lines.{lines_of, clear_roll, clear_hour}
 use Rattle.ledger.specs.Posting.{added_to}
-use Rattle.ledger.proofs.Places.{length-lines, at-line, same_lines}
+use Rattle.ledger.proofs.Places.{length_lines, at_line, same_lines}
 use Rattle.month.specs.Hours.{added_line}
 use Rattle.month.specs.Sums.{sheet_line, rolled_line}
 use Rattle.month.proofs.Sheets.{sheet_roomy}
@@ -13,7 +13,7 @@ add-sheet-requires c =
     let ds = c.args.dues.now in
     let s = c.args.sums.now.short in
     record {
-      lines = ap length c.fill-sheet.ensures ∙ length-lines n (sheet_line s ds) ∙ c.requires.lines.0;
+      lines = ap length c.fill-sheet.ensures ∙ length_lines n (sheet_line s ds) ∙ c.requires.lines.0;
       roll = c.requires.roll;
       sheet = sheet_roomy n c.fill-sheet.new.sheet ds s c.requires.owners (omega (arith, c.requires.sums, c.requires.small)) c.requires.small.1 (omega (arith, c.requires.sums)) c.fill-sheet.ensures;
     }
@@ -29,5 +29,5 @@ returns c =
     record {
       amounts = c.write-amounts.ensures;
       sheet = is;
-      roll = c.add-sheet.ensures ∙ same_lines (length roll) (added_line roll sheet') (rolled_line roll s ds) (λ o h. ap (added_to (get_or roll o clear_roll)) (ap (λ l. get_or l o clear_hour) is ∙ at-line (length roll) (sheet_line s ds) o clear_hour h));
+      roll = c.add-sheet.ensures ∙ same_lines (length roll) (added_line roll sheet') (rolled_line roll s ds) (λ o h. ap (added_to (get_or roll o clear_roll)) (ap (λ l. get_or l o clear_hour) is ∙ at_line (length roll) (sheet_line s ds) o clear_hour h));
     }

@@ -2,7 +2,7 @@ use Rattle.std.proofs.Common.{length, refl, ap}
 use Rattle.rows.specs.declared.plain.DayRow.{DayRow}
 use Rattle.hours.specs.Read.{tables_in}
 use Rattle.month_settlement.specs.Running.{unread, unposted, posted}
-use Rattle.month_settlement.proofs.Fronts.{accepted-in, refused_in_lem}
+use Rattle.month_settlement.proofs.Fronts.{accepted_in, refused_in_lem}
 use Rattle.month_settlement.proofs.booking.book_hour.Goals as goal
 
 pub returns-in-Err : goal.returns-in-Err
@@ -16,4 +16,4 @@ returns-in-Err-post-hour g c =
 pub returns-in-Ok-post-hour : goal.returns-in-Ok-post-hour
 returns-in-Ok-post-hour g c =
     let t = tables_in c.read.new.self in
-    posted t _ _ c.in-Ok.ensures (ap (λ (d : DayRow). d.hour) c.day.ensures) (accepted-in (g.I.Instrument.means c.args.instrument.now) (length c.args.roll.now) c.min-owners.result t c.min-owners.ensures c.in-Ok-post-hour.ensures)
+    posted t _ _ c.in-Ok.ensures (ap (λ (d : DayRow). d.hour) c.day.ensures) (accepted_in (g.I.Instrument.means c.args.instrument.now) (length c.args.roll.now) c.min-owners.result t c.min-owners.ensures c.in-Ok-post-hour.ensures)

@@ -2,21 +2,21 @@ use Rattle.std.proofs.Common.{◌≡◌, ℕ, ◌+◌, ◌-◌, ◌*◌, ◌<◌
 use Rattle.std.proofs.lemmas.List.{take_all, drop_all}
 use Rattle.codec.specs.Records.{encode_placed}
 use Rattle.format.specs.Hours.{records_of, factors_of}
-use Rattle.packages.proofs.Nexts.{some-point, point-row, row_room, row_next, row_put}
+use Rattle.packages.proofs.Nexts.{some_point, point_row, row_room, row_next, row_put}
 use Rattle.packages.proofs.filling.fill_rows.Goals as goal
 
 pub returns-in_default : goal.returns-in_default
 returns-in_default c = λ xs more e n a.
     let i = c.loop-i.invariant.1 xs more e n a in
     let lt : c.loop-i.-i < length xs = omega arith in
-    absurd (some-point c.args.columns xs more a c.loop-i.reader.rest.now c.loop-i.-i lt i.0 c.in_default.ensures)
+    absurd (some_point c.args.columns xs more a c.loop-i.reader.rest.now c.loop-i.-i lt i.0 c.in_default.ensures)
 
 pub returns-then-fields-lt13 : goal.returns-then-fields-lt13
 returns-then-fields-lt13 c = λ xs more e n a.
     let i = c.loop-i.invariant.1 xs more e n a in
     let lt : c.loop-i.-i < length xs = omega arith in
     let f = c.in-Some.ensures in
-    let p = point-row c.args.columns xs more a c.loop-i.reader.rest.now c.loop-i.-i lt i.0 f.0 c.in-Some.fields.now c.next_fields.new.reader.rest.now f.1 in
+    let p = point_row c.args.columns xs more a c.loop-i.reader.rest.now c.loop-i.-i lt i.0 f.0 c.in-Some.fields.now c.next_fields.new.reader.rest.now f.1 in
     absurd (omega (arith, p.1))
 
 pub offset_bounds-table-at : goal.offset_bounds-table-at
@@ -37,7 +37,7 @@ loop-i-preserved c =
           let i = c.loop-i.invariant.1 xs more e n a in
           let lt : c.loop-i.-i < length xs = omega arith in
           let f = c.in-Some.ensures in
-          let p = point-row c.args.columns xs more a c.loop-i.reader.rest.now c.loop-i.-i lt i.0 f.0 c.in-Some.fields.now c.next_fields.new.reader.rest.now f.1 in
+          let p = point_row c.args.columns xs more a c.loop-i.reader.rest.now c.loop-i.-i lt i.0 f.0 c.in-Some.fields.now c.next_fields.new.reader.rest.now f.1 in
           (p.0, row_put c.in-Some.fields.now c.loop-i.table c.fill_factors.new.table (factors_of (take c.loop-i.-i xs)) c.loop-i.at c.args.columns c.fill_factors.ensures p.2 h i.1 ∙ sym p.3),
     )
 

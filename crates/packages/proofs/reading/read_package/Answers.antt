@@ -7,7 +7,7 @@ use Rattle.format.specs.Hours.{Tables}
 use Rattle.format.specs.Reading.{reads_tables, reads_into}
 use Rattle.format.proofs.Ways.{read_writes}
 use Rattle.packages.specs.Counting.{Seen, seen_of, seen_in}
-use Rattle.packages.proofs.Rooms.{room, laid_err, laid_ok, room-short, room-good, factor_count, front_length, front_filled}
+use Rattle.packages.proofs.Rooms.{room, laid_err, laid_ok, room_short, room_good, factor_count, front_length, front_filled}
 use Rattle.packages.proofs.reading.read_package.Goals as goal
 
 -- what the test of the room says
@@ -23,7 +23,7 @@ returns-then-not-has_room c =
     let b : Bytes c.args.bytes.now = λ i. (c.type-inv.bytes i).fits in
     let n : room (seen_in c.in_ok-found.found) (length c.args.constraints.now) (length c.args.points.now) (length c.args.factors.now) (length c.args.holdings.now) ≡ false = sym c.if-not-has_room.ensures in
     let r : reads_into c.args.bytes.now c.args.constraints.now c.args.points.now c.args.factors.now c.args.holdings.now ≡ Err (refused_at 7 0) =
-    room-short (reads_tables c.args.bytes.now) (length c.args.constraints.now) (length c.args.points.now) (length c.args.factors.now) (length c.args.holdings.now) (seen_in c.in_ok-found.found) s n in
+    room_short (reads_tables c.args.bytes.now) (length c.args.constraints.now) (length c.args.points.now) (length c.args.factors.now) (length c.args.holdings.now) (seen_in c.in_ok-found.found) s n in
     record {
       answer = ap (answered seen_of) (sym r);
       constraint_rows = laid_err _ _ (λ t. t.constraints) c.args.constraints.now r;
@@ -49,7 +49,7 @@ returns c =
     let s : Ok (seen_in c.in_ok-found.found) ≡ answered seen_of (reads_tables c.args.bytes.now) = search rules in
     let b : Bytes c.args.bytes.now = λ i. (c.type-inv.bytes i).fits in
     let f = fits (seen_in c.in_ok-found.found) (length c.args.constraints.now) (length c.args.points.now) (length c.args.factors.now) (length c.args.holdings.now) (sym c.if-not-has_room.ensures) in
-    let g = room-good (reads_tables c.args.bytes.now) (length c.args.constraints.now) (length c.args.points.now) (length c.args.factors.now) (length c.args.holdings.now) (seen_in c.in_ok-found.found) s (sym c.if-not-has_room.ensures) in
+    let g = room_good (reads_tables c.args.bytes.now) (length c.args.constraints.now) (length c.args.points.now) (length c.args.factors.now) (length c.args.holdings.now) (seen_in c.in_ok-found.found) s (sym c.if-not-has_room.ensures) in
     let lc : length g.0.constraints ≡ c.in_ok-found.found.constraints = ap (λ (x : Seen). x.constraints) g.2 in
     let lp : length g.0.points ≡ c.in_ok-found.found.points = ap (λ (x : Seen). x.points) g.2 in
     let lf : length g.0.factors ≡ c.in_ok-found.found.factors = ap (λ (x : Seen). x.factors) g.2 in

@@ -10,7 +10,7 @@ use Rattle.format.specs.Hours.{hour}
 use Rattle.format.specs.Reading.{run}
 use Rattle.packages.specs.declared.filled.Filled.{Filled}
 use Rattle.packages.specs.Counting.{counted, Seen, seen_in}
-use Rattle.packages.proofs.First.{left, few, told-good, told-refused}
+use Rattle.packages.proofs.First.{left, few, told_good, told_refused}
 use Rattle.packages.proofs.testing.test_records.Goals as goal
 
 abbrev refuse : Told → Result Seen Told
@@ -29,7 +29,7 @@ returns-in_err-seen c =
     ap (λ m. answered counted (run (length c.args.bytes.now) m (hour (plain_day c.in_ok-day.day) [] [] []) c.next.new.self.rest.now)) (sym q) ∙ sym t in
     let p = err_from_is_err_and c.from_residual-in_err-seen.result c.from_residual-in_err-seen.ensures.1 in
     ap (told_by seen_in) p.1 ∙ ap (λ e. refuse (told e)) p.2
-    ∙ told-refused c.args.bytes.now (length c.args.bytes.now) c.in-Some.first.letter c.in-Some.first.fields.now c.next.new.self.rest.now (plain_day c.in_ok-day.day) b fr l d (told c.in_err-seen.field-0.0) r
+    ∙ told_refused c.args.bytes.now (length c.args.bytes.now) c.in-Some.first.letter c.in-Some.first.fields.now c.next.new.self.rest.now (plain_day c.in_ok-day.day) b fr l d (told c.in_err-seen.field-0.0) r
 
 pub overflow_mul-result : goal.overflow_mul-result
 overflow_mul-result c =
@@ -55,4 +55,4 @@ returns c =
     let t = c.in_ok-seen.ensures (length c.args.bytes.now) (hour (plain_day c.in_ok-day.day) [] [] []) n refl in
     let r : answered counted (run (length c.args.bytes.now) 1 (hour (plain_day c.in_ok-day.day) [] [] []) c.next.new.self.rest.now) ≡ Ok c.in_ok-seen.seen =
     ap (λ m. answered counted (run (length c.args.bytes.now) m (hour (plain_day c.in_ok-day.day) [] [] []) c.next.new.self.rest.now)) (sym q) ∙ sym t in
-    told-good c.args.bytes.now (length c.args.bytes.now) c.in-Some.first.letter c.in-Some.first.fields.now c.next.new.self.rest.now (plain_day c.in_ok-day.day) b fr l d c.in_ok-seen.seen r
+    told_good c.args.bytes.now (length c.args.bytes.now) c.in-Some.first.letter c.in-Some.first.fields.now c.next.new.self.rest.now (plain_day c.in_ok-day.day) b fr l d c.in_ok-seen.seen r

@@ -1,7 +1,7 @@
 use Rattle.std.proofs.Common.{◌≡◌, suc, ◌-◌, ◌<◌, sym, arith}
 use Rattle.rights.specs.Chains.{bucket_at}
 use Rattle.rights.proofs.Buckets.{last_within}
-use Rattle.rights.proofs.Walks.{walk_start, walk-on, walk-found, to_last}
+use Rattle.rights.proofs.Walks.{walk_start, walk_on, walk_found, to_last}
 use Rattle.rights.proofs.chain.is_chained.Goals as goal
 
 pub loop-link-init : goal.loop-link-init
@@ -12,7 +12,7 @@ loop-link-init c =
 
 pub returns-then-is_same_right : goal.returns-then-is_same_right
 returns-then-is_same_right c =
-    walk-found c.args.holdings.now c.args.place c.requires.inside.0 c.loop-link.link _ (omega arith) c.loop-link.invariant.walk (sym c.if-is_same_right.ensures)
+    walk_found c.args.holdings.now c.args.place c.requires.inside.0 c.loop-link.link _ (omega arith) c.loop-link.invariant.walk (sym c.if-is_same_right.ensures)
 
 pub loop-link-smaller : goal.loop-link-smaller
 loop-link-smaller c =
@@ -28,4 +28,4 @@ loop-link-preserved c =
     let k = c.loop-link.link - 1 in
     let is : c.loop-link.link ≡ suc k = omega arith in
     let before : k < place = omega (arith, c.loop-link.invariant.walk.within) in
-    to_last hs place c.requires.inside.0 (bucket_at hs k) k _ (walk-on hs place c.requires.inside.0 c.loop-link.link k is c.loop-link.invariant.walk (sym c.if-is_same_right.ensures)) (c.loop-link.invariant.there k is) (c.requires.chained.leads k before)
+    to_last hs place c.requires.inside.0 (bucket_at hs k) k _ (walk_on hs place c.requires.inside.0 c.loop-link.link k is c.loop-link.invariant.walk (sym c.if-is_same_right.ensures)) (c.loop-link.invariant.there k is) (c.requires.chained.leads k before)

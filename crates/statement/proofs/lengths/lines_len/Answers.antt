@@ -1,10 +1,10 @@
 use Rattle.std.proofs.Common.{◌≡◌, ◌+◌, ◌*◌, ◌≤◌, length, ap, ◌∙◌, arith}
-use Rattle.statement.proofs.Longs.{sizes_inv, lines_all, next-long}
+use Rattle.statement.proofs.Longs.{sizes_inv, lines_all, next_long}
 use Rattle.statement.proofs.lengths.lines_len.Goals as goal
 
 pub loop-i-preserved : goal.loop-i-preserved
 loop-i-preserved c =
-    let n = next-long c.args.holdings.now c.args.amounts.now c.loop-i.i c.loop-i-test.true c.requires in
+    let n = next_long c.args.holdings.now c.args.amounts.now c.loop-i.i c.loop-i-test.true c.requires in
     (omega (arith, c.loop-i.invariant.0, c.holding_len-total.ensures.value), omega (arith, c.loop-i.invariant.1, c.holding_len-total.ensures.bound))
 
 pub returns : goal.returns

@@ -6,7 +6,7 @@ use Rattle.codec.specs.Records.{Placed, encode_placed, encode_point}
 use Rattle.buffer.specs.Writes.{Wrote}
 use Rattle.format.specs.Hours.{records_of, placed}
 use Rattle.format.proofs.Ways.{placed_long}
-use Rattle.writer.proofs.Points.{row-end, row_next, head-room, row_room, point-more}
+use Rattle.writer.proofs.Points.{row_end, row_next, head-room, row_room, point-more}
 use Rattle.writer.proofs.pieces.put_points.Goals as goal
 
 -- the point of a turn
@@ -21,12 +21,12 @@ itself ps i h = get_or_default ps i blank (turn ps i) h
 
 pub offset_bounds-factors-first : goal.offset_bounds-factors-first
 offset_bounds-factors-first c =
-    let h = row-end c.args.columns c.args.points.now c.args.factors.now c.loop-point.point-index c.loop-point.first (turn c.args.points.now c.loop-point.point-index) c.loop-point-test.true (itself _ _ c.loop-point-test.true) c.loop-point.invariant.0 c.requires.rows in
+    let h = row_end c.args.columns c.args.points.now c.args.factors.now c.loop-point.point-index c.loop-point.first (turn c.args.points.now c.loop-point.point-index) c.loop-point-test.true (itself _ _ c.loop-point-test.true) c.loop-point.invariant.0 c.requires.rows in
     search rules
 
 pub slice_bounds-put_factors-end : goal.slice_bounds-put_factors-end
 slice_bounds-put_factors-end c =
-    let h = row-end c.args.columns c.args.points.now c.args.factors.now c.loop-point.point-index c.loop-point.first (turn c.args.points.now c.loop-point.point-index) c.loop-point-test.true (itself _ _ c.loop-point-test.true) c.loop-point.invariant.0 c.requires.rows in
+    let h = row_end c.args.columns c.args.points.now c.args.factors.now c.loop-point.point-index c.loop-point.first (turn c.args.points.now c.loop-point.point-index) c.loop-point-test.true (itself _ _ c.loop-point-test.true) c.loop-point.invariant.0 c.requires.rows in
     search rules
 
 -- the head of the record was written

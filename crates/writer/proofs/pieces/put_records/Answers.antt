@@ -4,16 +4,16 @@ use Rattle.std.proofs.ByRecursion.{All-more}
 use Rattle.std.specs.List.{AllByRecursion as All}
 use Rattle.buffer.specs.Writes.{Wrote}
 use Rattle.format.specs.Hours.{records_of}
-use Rattle.writer.proofs.Runs.{record-room, record-more}
+use Rattle.writer.proofs.Runs.{record_room, record_more}
 use Rattle.writer.proofs.pieces.put_records.Goals as goal
 
 pub put_record-at-requires : goal.put_record-at-requires
 put_record-at-requires g c =
-    record-room g.R.Recorded.letter g.R.Recorded.fields c.args.rows.now c.loop-row.row-index c.row-item.result c.loop-row-test.true c.row-item.is c.args.out.now c.loop-row.out c.args.start c.loop-row.at c.loop-row.invariant.0 c.requires
+    record_room g.R.Recorded.letter g.R.Recorded.fields c.args.rows.now c.loop-row.row-index c.row-item.result c.loop-row-test.true c.row-item.is c.args.out.now c.loop-row.out c.args.start c.loop-row.at c.loop-row.invariant.0 c.requires
 
 pub loop-row-preserved : goal.loop-row-preserved
 loop-row-preserved g c = (
-  record-more g.R.Recorded.letter g.R.Recorded.fields c.args.rows.now c.loop-row.row-index c.row-item.result c.loop-row-test.true c.row-item.is c.args.out.now c.loop-row.out c.args.start c.loop-row.at c.loop-row.invariant.0 c.put_record-at.result c.put_record-at.new.out c.put_record-at.ensures.wrote,
+  record_more g.R.Recorded.letter g.R.Recorded.fields c.args.rows.now c.loop-row.row-index c.row-item.result c.loop-row-test.true c.row-item.is c.args.out.now c.loop-row.out c.args.start c.loop-row.at c.loop-row.invariant.0 c.put_record-at.result c.put_record-at.new.out c.put_record-at.ensures.wrote,
   All-more g.R.Recorded.fits c.args.rows.now c.loop-row.row-index c.row-item.result c.loop-row-test.true c.loop-row.invariant.1 (subst g.R.Recorded.fits c.row-item.is c.put_record-at.ensures.fits),
 )
 

@@ -12,7 +12,7 @@ use Rattle.format.specs.Reading.{reads_tables}
 use Rattle.format.specs.Writing.{sizes_ok, bad_entry, writes, written}
 use Rattle.format.proofs.Ways.{sizes_inv, written_reads}
 use Rattle.writer.proofs.Whole.{tables_long, tables_small}
-use Rattle.writer.proofs.Verdicts.{day_ok_lem, writes_short, writes-good}
+use Rattle.writer.proofs.Verdicts.{day_ok_lem, writes_short, writes_good}
 use Rattle.writer.proofs.writing.write_package.Goals as goal
 
 abbrev given : Day → List ConstraintRow → List PointRow → List ℤ → List HoldingRow → Tables
@@ -42,7 +42,7 @@ returns c =
     let s : sizes_ok (given c.args.day.now c.args.constraints.now c.args.points.now c.args.factors.now c.args.holdings.now) ≡ true = sym c.if-not-sizes_ok.ensures in
     let b : bad_entry (given c.args.day.now c.args.constraints.now c.args.points.now c.args.factors.now c.args.holdings.now) ≡ None = search rules in
     let l = tables_long (given c.args.day.now c.args.constraints.now c.args.points.now c.args.factors.now c.args.holdings.now) (sizes_inv (given c.args.day.now c.args.constraints.now c.args.points.now c.args.factors.now c.args.holdings.now) s).3 in
-    let w = writes-good (given c.args.day.now c.args.constraints.now c.args.points.now c.args.factors.now c.args.holdings.now) (length c.args.out.now) s b (omega arith) in
+    let w = writes_good (given c.args.day.now c.args.constraints.now c.args.points.now c.args.factors.now c.args.holdings.now) (length c.args.out.now) s b (omega arith) in
     let p = whole c.args.out.now (package_of (hour_of (given c.args.day.now c.args.constraints.now c.args.points.now c.args.factors.now c.args.holdings.now))) c.put_package.result c.put_package.new.out c.put_package.ensures.wrote in
     record {
       answer = ap (λ (n : ℕ). Ok n) p.0 ∙ ap (answered length) (sym w);

@@ -5,7 +5,7 @@ use Rattle.payoff.specs.Tables.{tables}
 use Rattle.ledger.specs.Posting.{posting_of, dues_of}
 use Rattle.month.specs.Months.{of_open}
 use Rattle.month.proofs.Columns.{tied_true}
-use Rattle.month.proofs.Posts.{roll_roomy, entered_is, answered_is, amounts_are, ok, front, owners-ready, amounts-ready, credits-ready, limits-ready, month-ready, flows, roll-of-hour, sheet-of-hour}
+use Rattle.month.proofs.Posts.{roll_roomy, entered_is, answered_is, amounts_are, ok, front, owners_ready, amounts_ready, credits_ready, limits_ready, month_ready, flows, roll_of_hour, sheet_of_hour}
 use Rattle.month.proofs.state.OpenMonth.post.Goals as goal
 
 pub slice-bounds-write-hour-end : goal.slice-bounds-write-hour-end
@@ -22,10 +22,10 @@ write-hour-requires g c =
     let table = c.admit-admitted.new.dues in
     let a = c.in-Ok.ensures in
     record {
-      owners = owners-ready f roll p s table a;
-      lines = ((ok f roll p s table a).lines, amounts-ready f roll p s table a);
-      sums = credits-ready f roll p s table a;
-      small = limits-ready f roll p s table a;
+      owners = owners_ready f roll p s table a;
+      lines = ((ok f roll p s table a).lines, amounts_ready f roll p s table a);
+      sums = credits_ready f roll p s table a;
+      small = limits_ready f roll p s table a;
       roll = roll_roomy f roll (tied_true f roll (ok f roll p s table a).ties) (omega arith) (omega arith) (omega arith);
     }
 
@@ -41,8 +41,8 @@ enter-requires g c =
     let r : rent ≡ nat_abs c.args.day.now.rent.value = omega (arith, ints) in
     record {
       later = ((ok f roll p s table a).later, c.args.day.now.last_hour);
-      money = (omega (arith, ints), ((limits-ready f roll p s table a).0, omega (arith, a.sums.charges_is, (ok f roll p s table a).charge)));
-      month = month-ready f roll p s table a;
+      money = (omega (arith, ints), ((limits_ready f roll p s table a).0, omega (arith, a.sums.charges_is, (ok f roll p s table a).charge)));
+      month = month_ready f roll p s table a;
       flows = flows f roll p s table a rent r;
     }
 
@@ -54,8 +54,8 @@ answer-requires g c =
     let s = c.in-Ok.sums in
     let table = c.admit-admitted.new.dues in
     let a = c.in-Ok.ensures in
-    let m = month-ready f roll p s table a in
-    ((limits-ready f roll p s table a).0, (omega (arith, a.sums.charges_is, (ok f roll p s table a).charge), (omega (arith, m.0), omega (arith, m.1, ap (λ h. h.balance) c.enter.ensures))))
+    let m = month_ready f roll p s table a in
+    ((limits_ready f roll p s table a).0, (omega (arith, a.sums.charges_is, (ok f roll p s table a).charge), (omega (arith, m.0), omega (arith, m.1, ap (λ h. h.balance) c.enter.ensures))))
 
 pub returns : goal.returns
 returns g c =
@@ -70,8 +70,8 @@ returns g c =
     record {
       tests = a.tests;
       month_after = c.enter.ensures ∙ entered_is f c.args.day.now.hour (nat_abs c.args.day.now.rent.value) rent (dues_of p) s r a.sums;
-      roll_after = c.write-hour.ensures.roll ∙ roll-of-hour f roll p s table a;
-      sheet_after = c.write-hour.ensures.sheet ∙ sheet-of-hour f roll p s table a;
+      roll_after = c.write-hour.ensures.roll ∙ roll_of_hour f roll p s table a;
+      sheet_after = c.write-hour.ensures.sheet ∙ sheet_of_hour f roll p s table a;
       amounts_after = c.write-hour.ensures.amounts ∙ amounts_are p _ c.args.amounts.now (front f roll p s table a);
       answer = c.answer.ensures ∙ answered_is c.args.day.now.rent s (dues_of p) c.enter.new.self.balance c.args.day.now.rent_low a.sums;
     }
