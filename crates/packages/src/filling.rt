@@ -20,7 +20,7 @@ pub(crate) fn next_fields<'a>(reader: &mut Reader<'a>) -> Option<&'a [u8]>
 
 /// Fills a table with the rows of as many records from the reader's place on.
 pub(crate) fn fill<R: Row>(reader: &mut Reader, table: &mut [R])
-    ensures { (l : ℕ) (ks : List (Spelt R)) (more : List ℕ) → reader.old.rest.now ≡ records l ks ++ more → length ks ≡ length table.old → All (IsRead R.row) ks → (table.new ≡ rows_of ks) × (reader.new.rest.now ≡ more) }
+    ensures { (l : ℕ) (ks : List (Spelt R)) (more : List ℕ) → reader.old.rest.now ≡ records l ks ++ more → length ks ≡ length table.old → All (IsRead R.row_of) ks → (table.new ≡ rows_of ks) × (reader.new.rest.now ≡ more) }
 {
     for cell in table.iter_mut() {
         let Some(fields) = next_fields(reader) else {

@@ -6,14 +6,14 @@ use rows::{ConstraintRow, HoldingRow, PointRow};
 
 /// A row that is read of a record's fields.
 pub(crate) trait Row: Copy {
-    ghost row: { List ℕ → Option Self };
+    ghost row_of: { List ℕ → Option Self };
 
     fn of(fields: &[u8]) -> Option<Self>
-        ensures { result ≡ row fields.now };
+        ensures { result ≡ row_of fields.now };
 }
 
 impl Row for ConstraintRow {
-    ghost row = { λ bs. sized 6 constraint_at bs };
+    ghost row_of = { λ bs. sized 6 constraint_at bs };
 
     fn of(fields: &[u8]) -> Option<ConstraintRow> {
         constraint_at(fields)
@@ -21,7 +21,7 @@ impl Row for ConstraintRow {
 }
 
 impl Row for PointRow {
-    ghost row = { λ bs. (if nat_le 13 (length bs) then Some (point_at bs) else None) };
+    ghost row_of = { λ bs. (if nat_le 13 (length bs) then Some (point_at bs) else None) };
 
     fn of(fields: &[u8]) -> Option<PointRow> {
         point_at(fields)
@@ -29,7 +29,7 @@ impl Row for PointRow {
 }
 
 impl Row for HoldingRow {
-    ghost row = { λ bs. sized 20 holding_at bs };
+    ghost row_of = { λ bs. sized 20 holding_at bs };
 
     fn of(fields: &[u8]) -> Option<HoldingRow> {
         holding_at(fields)

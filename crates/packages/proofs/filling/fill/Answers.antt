@@ -8,21 +8,21 @@ pub returns-in_default : goal.returns-in_default
 returns-in_default g c = λ l ks more e n a.
     let i = c.loop-cell.invariant l ks more e n a in
     let lt : c.loop-cell.cell-index < length ks = omega (arith, c.loop-cell.auto.table) in
-    absurd (some_record g.R.Row.row l ks more a c.loop-cell.reader.rest.now c.loop-cell.cell-index lt i.0 c.in_default.ensures)
+    absurd (some_record g.R.Row.row_of l ks more a c.loop-cell.reader.rest.now c.loop-cell.cell-index lt i.0 c.in_default.ensures)
 
 pub returns-in_default-of : goal.returns-in_default-of
 returns-in_default-of g c = λ l ks more e n a.
     let i = c.loop-cell.invariant l ks more e n a in
     let lt : c.loop-cell.cell-index < length ks = omega (arith, c.loop-cell.auto.table) in
     let f = c.in-Some.ensures in
-    absurd (some_row g.R.Row.row l ks more a c.loop-cell.reader.rest.now c.loop-cell.cell-index lt i.0 f.0 c.in-Some.fields.now c.next_fields.new.reader.rest.now f.1 c.in_default-of.ensures)
+    absurd (some_row g.R.Row.row_of l ks more a c.loop-cell.reader.rest.now c.loop-cell.cell-index lt i.0 f.0 c.in-Some.fields.now c.next_fields.new.reader.rest.now f.1 c.in_default-of.ensures)
 
 pub loop-cell-preserved : goal.loop-cell-preserved
 loop-cell-preserved g c = λ l ks more e n a.
     let i = c.loop-cell.invariant l ks more e n a in
     let lt : c.loop-cell.cell-index < length ks = omega (arith, c.loop-cell.auto.table) in
     let f = c.in-Some.ensures in
-    row_stored g.R.Row.row l ks more a c.loop-cell.reader.rest.now c.loop-cell.cell-index lt i.0 f.0 c.in-Some.fields.now c.next_fields.new.reader.rest.now c.loop-cell.table c.in-Some-of.found f.1 c.in-Some-of.ensures (omega (arith, c.loop-cell.auto.table)) i.1
+    row_stored g.R.Row.row_of l ks more a c.loop-cell.reader.rest.now c.loop-cell.cell-index lt i.0 f.0 c.in-Some.fields.now c.next_fields.new.reader.rest.now c.loop-cell.table c.in-Some-of.found f.1 c.in-Some-of.ensures (omega (arith, c.loop-cell.auto.table)) i.1
 
 pub returns : goal.returns
 returns g c = λ l ks more e n a.

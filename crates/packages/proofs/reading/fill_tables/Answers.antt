@@ -15,7 +15,7 @@ fill_rows-requires c =
 
 pub returns : goal.returns
 returns c = λ t e nc np nf nh.
-    let b : Bytes c.args.bytes.now = λ i. (c.type-inv.bytes i).fits in
+    let b : Bytes c.args.bytes.now = λ i. (c.type_inv.bytes i).fits in
     let l = laid_by c.args.bytes.now t b e in
     let g = l.good in
     let P : List ℕ = records_of 80 encode_placed l.hour.points in

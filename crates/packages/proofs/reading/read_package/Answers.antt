@@ -20,7 +20,7 @@ fits s a b c d e =
 pub returns-then-not-has_room : goal.returns-then-not-has_room
 returns-then-not-has_room c =
     let s : Ok (seen_in c.in_ok-found.found) ≡ answered seen_of (reads_tables c.args.bytes.now) = search rules in
-    let b : Bytes c.args.bytes.now = λ i. (c.type-inv.bytes i).fits in
+    let b : Bytes c.args.bytes.now = λ i. (c.type_inv.bytes i).fits in
     let n : room (seen_in c.in_ok-found.found) (length c.args.constraints.now) (length c.args.points.now) (length c.args.factors.now) (length c.args.holdings.now) ≡ false = sym c.if-not-has_room.ensures in
     let r : reads_into c.args.bytes.now c.args.constraints.now c.args.points.now c.args.factors.now c.args.holdings.now ≡ Err (refused_at 7 0) =
     room_short (reads_tables c.args.bytes.now) (length c.args.constraints.now) (length c.args.points.now) (length c.args.factors.now) (length c.args.holdings.now) (seen_in c.in_ok-found.found) s n in
@@ -36,7 +36,7 @@ returns-then-not-has_room c =
 pub fill_tables-requires : goal.fill_tables-requires
 fill_tables-requires c =
     let s : Ok (seen_in c.in_ok-found.found) ≡ answered seen_of (reads_tables c.args.bytes.now) = search rules in
-    let b : Bytes c.args.bytes.now = λ i. (c.type-inv.bytes i).fits in
+    let b : Bytes c.args.bytes.now = λ i. (c.type_inv.bytes i).fits in
     let f = fits (seen_in c.in_ok-found.found) (length c.args.constraints.now) (length c.args.points.now) (length c.args.factors.now) (length c.args.holdings.now) (sym c.if-not-has_room.ensures) in
     let x = front_length c.in_ok-found.found.factors c.args.factors.now f.2 in
     let y = front_length c.in_ok-found.found.points c.args.points.now f.1 in
@@ -47,7 +47,7 @@ fill_tables-requires c =
 pub returns : goal.returns
 returns c =
     let s : Ok (seen_in c.in_ok-found.found) ≡ answered seen_of (reads_tables c.args.bytes.now) = search rules in
-    let b : Bytes c.args.bytes.now = λ i. (c.type-inv.bytes i).fits in
+    let b : Bytes c.args.bytes.now = λ i. (c.type_inv.bytes i).fits in
     let f = fits (seen_in c.in_ok-found.found) (length c.args.constraints.now) (length c.args.points.now) (length c.args.factors.now) (length c.args.holdings.now) (sym c.if-not-has_room.ensures) in
     let g = room_good (reads_tables c.args.bytes.now) (length c.args.constraints.now) (length c.args.points.now) (length c.args.factors.now) (length c.args.holdings.now) (seen_in c.in_ok-found.found) s (sym c.if-not-has_room.ensures) in
     let lc : length g.0.constraints ≡ c.in_ok-found.found.constraints = ap (λ (x : Seen). x.constraints) g.2 in

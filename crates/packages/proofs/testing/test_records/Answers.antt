@@ -18,7 +18,7 @@ refuse e = Err e
 
 pub returns-in_err-seen : goal.returns-in_err-seen
 returns-in_err-seen c =
-    let b : Bytes c.args.bytes.now = λ i. (c.type-inv.bytes i).fits in
+    let b : Bytes c.args.bytes.now = λ i. (c.type_inv.bytes i).fits in
     let fr : frame_of (drop 5 c.args.bytes.now) ≡ One c.in-Some.first.letter c.in-Some.first.fields.now c.next.new.self.rest.now = search rules in
     let l : c.in-Some.first.letter ≡ 68 = search rules in
     let d : decode_day 0 c.in-Some.first.fields.now ≡ Ok (plain_day c.in_ok-day.day) = search rules in
@@ -33,7 +33,7 @@ returns-in_err-seen c =
 
 pub overflow_mul-result : goal.overflow_mul-result
 overflow_mul-result c =
-    let b : Bytes c.args.bytes.now = λ i. (c.type-inv.bytes i).fits in
+    let b : Bytes c.args.bytes.now = λ i. (c.type_inv.bytes i).fits in
     let fr : frame_of (drop 5 c.args.bytes.now) ≡ One c.in-Some.first.letter c.in-Some.first.fields.now c.next.new.self.rest.now = search rules in
     let l : c.in-Some.first.letter ≡ 68 = search rules in
     let d : decode_day 0 c.in-Some.first.fields.now ≡ Ok (plain_day c.in_ok-day.day) = search rules in
@@ -46,7 +46,7 @@ overflow_mul-result c =
 
 pub returns : goal.returns
 returns c =
-    let b : Bytes c.args.bytes.now = λ i. (c.type-inv.bytes i).fits in
+    let b : Bytes c.args.bytes.now = λ i. (c.type_inv.bytes i).fits in
     let fr : frame_of (drop 5 c.args.bytes.now) ≡ One c.in-Some.first.letter c.in-Some.first.fields.now c.next.new.self.rest.now = search rules in
     let l : c.in-Some.first.letter ≡ 68 = search rules in
     let d : decode_day 0 c.in-Some.first.fields.now ≡ Ok (plain_day c.in_ok-day.day) = search rules in
