@@ -9,11 +9,10 @@ use payoff::{Instrument, TestedTables, test_tables};
 use pricing::{Pricing, price_in};
 use refusals::{Cause, Refusal};
 use rows::{ConstraintRow, Holding, HoldingRow, PointRow};
-use std::alloc::Global;
-use std::fmt;
+use std::alloc::{AllocError, Global};
 
 /// Appends the four figures and the hedge price.
-fn push_prices(text: &mut String, p: &Pricing) -> fmt::Result
+fn push_prices(text: &mut String, p: &Pricing) -> Result<(), AllocError>
     ensures { OnOk result (string_bytes text.new ≡ string_bytes text.old ++ prices_text (plain_pricing p.now)) }
 {
     let quantity = p.quantity.value;
@@ -28,7 +27,7 @@ fn push_prices(text: &mut String, p: &Pricing) -> fmt::Result
 }
 
 /// Appends the amounts.
-fn push_amounts(text: &mut String, p: &Pricing) -> fmt::Result
+fn push_amounts(text: &mut String, p: &Pricing) -> Result<(), AllocError>
     ensures { OnOk result (string_bytes text.new ≡ string_bytes text.old ++ amounts_text (plain_pricing p.now)) }
 {
     let amount = p.amount.value;
@@ -43,7 +42,7 @@ fn push_amounts(text: &mut String, p: &Pricing) -> fmt::Result
 }
 
 /// Appends every figure, or the refusal.
-fn push_answer(text: &mut String, answer: &Result<Pricing, Refusal>) -> fmt::Result
+fn push_answer(text: &mut String, answer: &Result<Pricing, Refusal>) -> Result<(), AllocError>
     ensures { OnOk result (string_bytes text.new ≡ string_bytes text.old ++ answer_text (told_by plain_pricing answer.now)) }
 {
     match answer {
@@ -82,7 +81,7 @@ fn push_line(
     place: usize,
     row: &HoldingRow,
     answer: &Result<Pricing, Refusal>,
-) -> fmt::Result
+) -> Result<(), AllocError>
     ensures { OnOk result (string_bytes text.new ≡ string_bytes text.old ++ holding_line place row.now (told_by plain_pricing answer.now)) }
 {
     let letter = row.letter as char;
@@ -99,7 +98,7 @@ fn push_lines<I: Instrument>(
     instrument: &I,
     hour: &TestedTables,
     holdings: &[HoldingRow],
-) -> fmt::Result
+) -> Result<(), AllocError>
     ensures { OnOk result (string_bytes text.new ≡ string_bytes text.old ++ lines_from (I.means instrument.now) (tables_of hour.now) 0 holdings.now) }
 {
     for (place, row) in holdings.iter().enumerate() {
@@ -117,7 +116,7 @@ pub fn explain_holdings<'a, I: Instrument>(
     points: &'a [PointRow],
     factors: &'a [i16],
     holdings: &[HoldingRow],
-) -> Result<String, fmt::Error>
+) -> Result<String, AllocError>
     ensures { IfOk result (λ s. string_bytes s ≡ explanation_of (I.means instrument.now) (tables constraints.now points.now factors.now) holdings.now) }
 {
     let mut text = String::new(heap);

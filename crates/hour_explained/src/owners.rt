@@ -11,7 +11,7 @@ use payoff::Instrument;
 use posting::post_hour;
 use refusals::Refusal;
 use rows::HoldingRow;
-use std::fmt;
+use std::alloc::AllocError;
 
 /// How many owners there are up to the last that holds anything.
 fn owners_in(holdings: &[HoldingRow]) -> usize
@@ -26,7 +26,7 @@ fn owners_in(holdings: &[HoldingRow]) -> usize
 }
 
 /// Appends that the hour is refused, and why.
-fn push_refusal(text: &mut String, refusal: Refusal) -> fmt::Result
+fn push_refusal(text: &mut String, refusal: Refusal) -> Result<(), AllocError>
     ensures { OnOk result (string_bytes text.new ≡ string_bytes text.old ++ refused_hour (told refusal)) }
 {
     writeln!(text, "hour {refusal}")
@@ -38,7 +38,7 @@ pub(crate) fn push_owners<I: Instrument>(
     text: &mut String,
     instrument: &I,
     hour: &HourTables,
-) -> fmt::Result
+) -> Result<(), AllocError>
     ensures { OnOk result (string_bytes text.new ≡ string_bytes text.old ++ owners_text (I.means instrument.now) (tables_in hour.now)) }
 {
     let mut roll = [CLEAR_ROLL; 128];

@@ -6,15 +6,14 @@ use crate::owners::push_owners;
 use explanation::explain_holdings;
 use hours::HourTables;
 use payoff::Instrument;
-use std::alloc::Global;
-use std::fmt;
+use std::alloc::{AllocError, Global};
 
 /// Tells of each holding of an hour every figure, or why it is refused; and then each owner's figures.
 fn explain_hour<I: Instrument>(
     heap: Global,
     instrument: &I,
     hour: &HourTables,
-) -> Result<String, fmt::Error>
+) -> Result<String, AllocError>
     ensures { IfOk result (λ s. string_bytes s ≡ hour_text (I.means instrument.now) (tables_in hour.now)) }
 {
     let mut text = explain_holdings(
@@ -35,7 +34,7 @@ pub fn explain_package<I: Instrument>(
     heap: Global,
     instrument: &I,
     bytes: &[u8],
-) -> Result<String, fmt::Error>
+) -> Result<String, AllocError>
     ensures { IfOk result (λ s. string_bytes s ≡ package_text (I.means instrument.now) bytes.now) }
 {
     let mut hour = HourTables::new();

@@ -5,8 +5,7 @@ use explanation::explain_holdings;
 use packages::read_package;
 use payoff::Instrument;
 use rows::{ConstraintRow, HoldingRow, PointRow};
-use std::alloc::Global;
-use std::fmt;
+use std::alloc::{AllocError, Global};
 
 const NO_CONSTRAINT: ConstraintRow = ConstraintRow {
     shadow: 0,
@@ -36,7 +35,7 @@ pub fn explain_package<I: Instrument>(
     heap: Global,
     instrument: &I,
     bytes: &[u8],
-) -> Result<String, fmt::Error>
+) -> Result<String, AllocError>
     ensures { IfOk result (λ s. string_bytes s ≡ package_text (I.means instrument.now) bytes.now) }
 {
     let mut constraints = [NO_CONSTRAINT; 32];

@@ -5,10 +5,10 @@ ghost use Rattle.month_text.specs.Lines.{booked_head, booked_tail, booked_text, 
 
 use month_settlement::BookedHour;
 use refusals::Refusal;
-use std::fmt;
+use std::alloc::AllocError;
 
 /// Appends an hour's number, rent and credits.
-fn push_head(text: &mut String, booked: &BookedHour) -> fmt::Result
+fn push_head(text: &mut String, booked: &BookedHour) -> Result<(), AllocError>
     ensures { OnOk result (string_bytes text.new ≡ string_bytes text.old ++ booked_head booked.now) }
 {
     let hour = booked.hour;
@@ -18,7 +18,7 @@ fn push_head(text: &mut String, booked: &BookedHour) -> fmt::Result
 }
 
 /// Appends its charges and shortfall, and the balance.
-fn push_tail(text: &mut String, booked: &BookedHour) -> fmt::Result
+fn push_tail(text: &mut String, booked: &BookedHour) -> Result<(), AllocError>
     ensures { OnOk result (string_bytes text.new ≡ string_bytes text.old ++ booked_tail booked.now) }
 {
     let charge = booked.answer.charges.value;
@@ -28,7 +28,7 @@ fn push_tail(text: &mut String, booked: &BookedHour) -> fmt::Result
 }
 
 /// Appends the line of an hour that was posted, as its statement has it.
-fn push_booked(text: &mut String, booked: &BookedHour) -> fmt::Result
+fn push_booked(text: &mut String, booked: &BookedHour) -> Result<(), AllocError>
     ensures { OnOk result (string_bytes text.new ≡ string_bytes text.old ++ booked_text booked.now) }
 {
     push_head(text, booked)?;
@@ -36,14 +36,14 @@ fn push_booked(text: &mut String, booked: &BookedHour) -> fmt::Result
 }
 
 /// Appends the line of a package that was set aside: its file, and the refusal.
-fn push_refused(text: &mut String, name: &str, refusal: Refusal) -> fmt::Result
+fn push_refused(text: &mut String, name: &str, refusal: Refusal) -> Result<(), AllocError>
     ensures { OnOk result (string_bytes text.new ≡ string_bytes text.old ++ refused_in name.now (told refusal)) }
 {
     writeln!(text, "{name}: {refusal}")
 }
 
 /// Appends what became of a package.
-fn push_outcome(text: &mut String, name: &str, outcome: &Result<BookedHour, Refusal>) -> fmt::Result
+fn push_outcome(text: &mut String, name: &str, outcome: &Result<BookedHour, Refusal>) -> Result<(), AllocError>
     ensures { OnOk result (string_bytes text.new ≡ string_bytes text.old ++ outcome_text name.now outcome.now) }
 {
     match outcome {
@@ -68,7 +68,7 @@ pub(crate) fn push_outcomes(
     text: &mut String,
     names: &[String],
     hours: &[Result<BookedHour, Refusal>],
-) -> fmt::Result
+) -> Result<(), AllocError>
     ensures { OnOk result (string_bytes text.new ≡ string_bytes text.old ++ lines_by (outcome_line (names_of names.now)) 0 hours.now) }
 {
     for (place, outcome) in hours.iter().enumerate() {

@@ -8,8 +8,7 @@ use crate::totals::push_totals;
 use ledger::LoadLine;
 use line_text::push_lines;
 use month_settlement::SettledMonth;
-use std::alloc::Global;
-use std::fmt;
+use std::alloc::{AllocError, Global};
 
 /// A settled month in text: what became of each package, by the name of its file; each owner's line; each load's; the
 /// month's totals, and both sides of the money equation. Unless memory fails.
@@ -18,7 +17,7 @@ pub fn month_text(
     names: &[String],
     month: &SettledMonth,
     loads: &[LoadLine],
-) -> Result<String, fmt::Error>
+) -> Result<String, AllocError>
     ensures { IfOk result (λ s. string_bytes s ≡ month_text (names_of names.now) month.now.hours.items (take (min month.now.figures.owners 128) month.now.roll) loads.now (of_told month.now.figures)) }
 {
     let mut text = String::new(heap);

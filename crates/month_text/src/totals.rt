@@ -3,10 +3,10 @@ ghost use Rattle.month.specs.Months.{of_told};
 ghost use Rattle.month_text.specs.Totals.{earned_text, repaid_text, in_text, out_text, month_totals};
 
 use month::ClosedFigures;
-use std::fmt;
+use std::alloc::AllocError;
 
 /// Appends how many hours were posted, and their rents, credits and charges.
-fn push_earned(text: &mut String, m: &ClosedFigures) -> fmt::Result
+fn push_earned(text: &mut String, m: &ClosedFigures) -> Result<(), AllocError>
     ensures { OnOk result (string_bytes text.new ≡ string_bytes text.old ++ earned_text (of_told m.now)) }
 {
     let hours = m.hours;
@@ -20,7 +20,7 @@ fn push_earned(text: &mut String, m: &ClosedFigures) -> fmt::Result
 }
 
 /// Appends what was charged for shortfalls, refunded, and paid to loads.
-fn push_repaid(text: &mut String, m: &ClosedFigures) -> fmt::Result
+fn push_repaid(text: &mut String, m: &ClosedFigures) -> Result<(), AllocError>
     ensures { OnOk result (string_bytes text.new ≡ string_bytes text.old ++ repaid_text (of_told m.now)) }
 {
     let shorts = m.shortfall_charges;
@@ -33,7 +33,7 @@ fn push_repaid(text: &mut String, m: &ClosedFigures) -> fmt::Result
 }
 
 /// Appends the money that came in: rents, charges and shortfall charges.
-fn push_in(text: &mut String, m: &ClosedFigures) -> fmt::Result
+fn push_in(text: &mut String, m: &ClosedFigures) -> Result<(), AllocError>
     ensures { OnOk result (string_bytes text.new ≡ string_bytes text.old ++ in_text (of_told m.now)) }
 {
     let rents = m.rents;
@@ -47,7 +47,7 @@ fn push_in(text: &mut String, m: &ClosedFigures) -> fmt::Result
 }
 
 /// Appends the money that went out: credits, refunds and load payments; a closed month has no balance.
-fn push_out(text: &mut String, m: &ClosedFigures) -> fmt::Result
+fn push_out(text: &mut String, m: &ClosedFigures) -> Result<(), AllocError>
     ensures { OnOk result (string_bytes text.new ≡ string_bytes text.old ++ out_text (of_told m.now)) }
 {
     let credits = m.credits;
@@ -61,7 +61,7 @@ fn push_out(text: &mut String, m: &ClosedFigures) -> fmt::Result
 }
 
 /// Appends the month's totals, and both sides of its money equation.
-pub(crate) fn push_totals(text: &mut String, m: &ClosedFigures) -> fmt::Result
+pub(crate) fn push_totals(text: &mut String, m: &ClosedFigures) -> Result<(), AllocError>
     ensures { OnOk result (string_bytes text.new ≡ string_bytes text.old ++ month_totals (of_told m.now)) }
 {
     push_earned(text, m)?;

@@ -7,4 +7,4 @@ use Rattle.explanation.proofs.lines.push_answer.Goals as goal
 pub returns-in-ok-push-prices : goal.returns-in-ok-push-prices
 returns-in-ok-push-prices c =
     let p = plain_pricing c.in-Ok.p in
-    rw c.in-Ok.is (joined_made c.push-amounts.result (string_bytes c.args.text.now) (string_bytes c.push-prices.new.text) (string_bytes c.push-amounts.new.text) (prices_text p) (amounts_text p) c.in-ok-push-prices.ensures c.push-amounts.ensures)
+    rw c.in-Ok.is (joined_made c.push_amounts.result (string_bytes c.args.text.now) (string_bytes c.push_prices.new.text) (string_bytes c.push_amounts.new.text) (prices_text p) (amounts_text p) c.in-ok-push-prices.ensures c.push_amounts.ensures)

@@ -13,8 +13,8 @@ loop-place-preserved g c =
     let i = c.loop-place.place in
     let x = string_bytes c.loop-place.text in
     let h = get_or c.args.holdings.now i _ in
-    let e = c.in-ok-push-line.ensures ∙ ap (λ (r : Result Priced Told). x ++ holding_line i h r) c.answer-at-answer.ensures in
-    line_more m t c.args.holdings.now i _ x (string_bytes c.push-line.new.text) c.loop-place-test.true e ∙ c.loop-place.invariant
+    let e = c.in_ok-push_line.ensures ∙ ap (λ (r : Result Priced Told). x ++ holding_line i h r) c.answer_at-answer.ensures in
+    line_more m t c.args.holdings.now i _ x (string_bytes c.push_line.new.text) c.loop-place-test.true e ∙ c.loop-place.invariant
 
 pub returns : goal.returns
 returns g c =

@@ -4,4 +4,4 @@ use Rattle.month.proofs.opening.open.Goals as goal
 
 pub returns : goal.returns
 returns c =
-    record { done = record { tests = search rules; month_after = refl; roll_after = c.fill-all.ensures }; runs = stands (length c.args.roll.now) _ c.fill-all.new.lines refl c.fill-all.ensures }
+    record { done = record { tests = search rules; month_after = refl; roll_after = c.fill_all.ensures }; runs = stands (length c.args.roll.now) _ c.fill_all.new.lines refl c.fill_all.ensures }

@@ -7,15 +7,15 @@ use Rattle.month.specs.Sums.{sheet_line, rolled_line}
 use Rattle.month.proofs.Sheets.{sheet_roomy}
 use Rattle.month.proofs.post.write_hour.Goals as goal
 
-pub add-sheet-requires : goal.add-sheet-requires
-add-sheet-requires c =
+pub add_sheet-requires : goal.add_sheet-requires
+add_sheet-requires c =
     let n = length c.args.sheet.now in
     let ds = c.args.dues.now in
     let s = c.args.sums.now.short in
     record {
-      lines = ap length c.fill-sheet.ensures ∙ length_lines n (sheet_line s ds) ∙ c.requires.lines.0;
+      lines = ap length c.fill_sheet.ensures ∙ length_lines n (sheet_line s ds) ∙ c.requires.lines.0;
       roll = c.requires.roll;
-      sheet = sheet_roomy n c.fill-sheet.new.sheet ds s c.requires.owners (omega (arith, c.requires.sums, c.requires.small)) c.requires.small.1 (omega (arith, c.requires.sums)) c.fill-sheet.ensures;
+      sheet = sheet_roomy n c.fill_sheet.new.sheet ds s c.requires.owners (omega (arith, c.requires.sums, c.requires.small)) c.requires.small.1 (omega (arith, c.requires.sums)) c.fill_sheet.ensures;
     }
 
 pub returns : goal.returns
@@ -24,10 +24,10 @@ returns c =
     let roll = c.args.roll.now in
     let ds = c.args.dues.now in
     let s = c.args.sums.now.short in
-    let sheet' = c.fill-sheet.new.sheet in
-    let is : sheet' ≡ lines_of (length roll) (sheet_line s ds) = c.fill-sheet.ensures ∙ ap (λ (m : ℕ). lines_of m (sheet_line s ds)) c.requires.lines.0 in
+    let sheet' = c.fill_sheet.new.sheet in
+    let is : sheet' ≡ lines_of (length roll) (sheet_line s ds) = c.fill_sheet.ensures ∙ ap (λ (m : ℕ). lines_of m (sheet_line s ds)) c.requires.lines.0 in
     record {
-      amounts = c.write-amounts.ensures;
+      amounts = c.write_amounts.ensures;
       sheet = is;
-      roll = c.add-sheet.ensures ∙ same_lines (length roll) (added_line roll sheet') (rolled_line roll s ds) (λ o h. ap (added_to (get_or roll o clear_roll)) (ap (λ l. get_or l o clear_hour) is ∙ at_line (length roll) (sheet_line s ds) o clear_hour h));
+      roll = c.add_sheet.ensures ∙ same_lines (length roll) (added_line roll sheet') (rolled_line roll s ds) (λ o h. ap (added_to (get_or roll o clear_roll)) (ap (λ l. get_or l o clear_hour) is ∙ at_line (length roll) (sheet_line s ds) o clear_hour h));
     }

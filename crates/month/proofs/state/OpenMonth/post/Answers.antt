@@ -8,13 +8,13 @@ use Rattle.month.proofs.Columns.{tied_true}
 use Rattle.month.proofs.Posts.{roll_roomy, entered_is, answered_is, amounts_are, ok, front, owners_ready, amounts_ready, credits_ready, limits_ready, month_ready, flows, roll_of_hour, sheet_of_hour}
 use Rattle.month.proofs.state.OpenMonth.post.Goals as goal
 
-pub slice-bounds-write-hour-end : goal.slice-bounds-write-hour-end
-slice-bounds-write-hour-end g c =
+pub slice_bounds-write_hour-end : goal.slice_bounds-write_hour-end
+slice_bounds-write_hour-end g c =
     let few = (ok _ _ _ _ _ c.in-Ok.ensures).few in
     omega (arith, few, c.admit-admitted.auto.dues)
 
-pub write-hour-requires : goal.write-hour-requires
-write-hour-requires g c =
+pub write_hour-requires : goal.write_hour-requires
+write_hour-requires g c =
     let f = of_open c.args.self.now in
     let roll = c.args.roll.now in
     let p = posting_of (g.I.Instrument.means c.args.instrument.now) (plain_day c.args.day.now) (tables c.args.constraints.now c.args.points.now c.args.factors.now) c.args.holdings.now c.args.sheet.now c.args.amounts.now in
@@ -70,8 +70,8 @@ returns g c =
     record {
       tests = a.tests;
       month_after = c.enter.ensures ∙ entered_is f c.args.day.now.hour (nat_abs c.args.day.now.rent.value) rent (dues_of p) s r a.sums;
-      roll_after = c.write-hour.ensures.roll ∙ roll_of_hour f roll p s table a;
-      sheet_after = c.write-hour.ensures.sheet ∙ sheet_of_hour f roll p s table a;
-      amounts_after = c.write-hour.ensures.amounts ∙ amounts_are p _ c.args.amounts.now (front f roll p s table a);
+      roll_after = c.write_hour.ensures.roll ∙ roll_of_hour f roll p s table a;
+      sheet_after = c.write_hour.ensures.sheet ∙ sheet_of_hour f roll p s table a;
+      amounts_after = c.write_hour.ensures.amounts ∙ amounts_are p _ c.args.amounts.now (front f roll p s table a);
       answer = c.answer.ensures ∙ answered_is c.args.day.now.rent s (dues_of p) c.enter.new.self.balance c.args.day.now.rent_low a.sums;
     }
