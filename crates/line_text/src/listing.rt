@@ -1,7 +1,7 @@
-use std::alloc::AllocError;
 ghost use Rattle.std.specs.Prelude.{◌≡◌, ℕ, List, ◌++◌, string_bytes, OnOk};
 ghost use Rattle.line_text.specs.Lines.{lines_by};
 
+use std::alloc::AllocError;
 
 /// An entry of a table that is told in a line of its own.
 pub trait TextLine {

@@ -9,11 +9,11 @@ pub returns-in-Ok : goal.returns-in-Ok
 returns-in-Ok g c =
     let m = g.I.Instrument.means c.args.instrument.now in
     let a = c.in-Ok.ensures in
-    let e = told_of m (roomed 32 256 8192 1024 (reads_tables c.args.bytes.now)) (seen_in c.in-Ok.hour) _ _ _ _ _ _ _ _ a.answer a.constraint-rows a.point-rows a.factor-rows a.holding-rows in
-    same_made c.explain-holdings.result string_bytes _ _ e c.explain-holdings.ensures
+    let e = told_of m (roomed 32 256 8192 1024 (reads_tables c.args.bytes.now)) (seen_in c.in-Ok.hour) _ _ _ _ _ _ _ _ a.answer a.constraint_rows a.point_rows a.factor_rows a.holding_rows in
+    same_made c.explain_holdings.result string_bytes _ _ e c.explain_holdings.ensures
 
-pub returns-in-ok-writeln : goal.returns-in-ok-writeln
-returns-in-ok-writeln g c =
+pub returns-in_ok-writeln-in-Err : goal.returns-in_ok-writeln-in-Err
+returns-in_ok-writeln-in-Err g c =
     let m = g.I.Instrument.means c.args.instrument.now in
     let e = refused_of m (roomed 32 256 8192 1024 (reads_tables c.args.bytes.now)) (told c.in-Err.refusal) c.in-Err.ensures.answer in
     (rw c.new-text.ensures.bytes at c.in-ok-writeln.ensures.bytes) ∙ e

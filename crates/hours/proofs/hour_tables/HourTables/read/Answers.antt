@@ -12,10 +12,10 @@ returns-in-Err c =
     let r = reads_into c.args.bytes.now t.constraints t.points t.factors t.holdings in
     let a = c.in-Err.ensures in
     let e = refused_in_lem r (told c.in-Err.refusal) a.answer in
-    let cs = stays_in r _ (λ x. x.constraints) t.constraints c.read-package.new.constraints e a.constraint-rows in
-    let ps = stays_in r _ (λ x. x.points) t.points c.read-package.new.points e a.point-rows in
-    let fs = stays_in r _ (λ x. x.factors) t.factors c.read-package.new.factors e a.factor-rows in
-    let hs = stays_in r _ (λ x. x.holdings) t.holdings c.read-package.new.holdings e a.holding-rows in
+    let cs = stays_in r _ (λ x. x.constraints) t.constraints c.read_package.new.constraints e a.constraint_rows in
+    let ps = stays_in r _ (λ x. x.points) t.points c.read_package.new.points e a.point_rows in
+    let fs = stays_in r _ (λ x. x.factors) t.factors c.read_package.new.factors e a.factor_rows in
+    let hs = stays_in r _ (λ x. x.holdings) t.holdings c.read_package.new.holdings e a.holding_rows in
     let cl : length t.constraints ≡ 32 = search rules in
     let pl : length t.points ≡ 256 = search rules in
     let fl : length t.factors ≡ 8192 = search rules in
@@ -30,4 +30,4 @@ returns-in-Ok c =
     let pl : length t.points ≡ 256 = search rules in
     let fl : length t.factors ≡ 8192 = search rules in
     let hl : length t.holdings ≡ 1024 = search rules in
-    sym (largest c.args.bytes.now t.constraints t.points t.factors t.holdings cl pl fl hl) ∙ sym (read_in _ (seen_in c.in-Ok.found) _ _ _ _ _ _ _ _ a.answer a.constraint-rows a.point-rows a.factor-rows a.holding-rows)
+    sym (largest c.args.bytes.now t.constraints t.points t.factors t.holdings cl pl fl hl) ∙ sym (read_in _ (seen_in c.in-Ok.found) _ _ _ _ _ _ _ _ a.answer a.constraint_rows a.point_rows a.factor_rows a.holding_rows)
