@@ -16,4 +16,4 @@ pub returns-in_ok-writeln-in-Err : goal.returns-in_ok-writeln-in-Err
 returns-in_ok-writeln-in-Err g c =
     let m = g.I.Instrument.means c.args.instrument.now in
     let e = refused_of m (roomed 32 256 8192 1024 (reads_tables c.args.bytes.now)) (told c.in-Err.refusal) c.in-Err.ensures.answer in
-    (rw c.new-text.ensures.bytes at c.in-ok-writeln.ensures.bytes) ∙ e
+    (rw c.new-text.ensures.bytes at c.in_ok-writeln-in-Err.ensures.bytes) ∙ e
