@@ -12,8 +12,8 @@ pub loop-package-preserved : goal.loop-package-preserved
 loop-package-preserved g c = λ st.
     let m = g.I.Instrument.means c.args.instrument.now in
     let n = length c.args.roll.now in
-    let b = booking_as m n _ _ _ _ _ _ _ _ (sym c.loop-package.auto.roll) (sym c.as-slice.ensures.value) c.book-hour-outcome.ensures in
-    so_far_more m n c.args.packages.now c.loop-package.package-index c.package-item.result (of_open c.args.month.now) (of_open c.loop-package.month) (of_open c.book-hour-outcome.new.month) c.args.roll.now c.loop-package.roll c.book-hour-outcome.new.roll (vec_items c.args.hours.now) (vec_items c.loop-package.hours) (vec_items c.push.new.self) c.book-hour-outcome.result st (g.met.I.Instrument.rules c.args.instrument.now) c.loop-package-test.true c.package-item.is b c.in-ok-push.ensures.items (c.loop-package.invariant st)
+    let b = booking_as m n _ _ _ _ _ _ _ _ (sym c.loop-package.auto.roll) (sym c.as_slice.ensures.value) c.book_hour-outcome.ensures in
+    so_far_more m n c.args.packages.now c.loop-package.package-index c.package-item.result (of_open c.args.month.now) (of_open c.loop-package.month) (of_open c.book_hour-outcome.new.month) c.args.roll.now c.loop-package.roll c.book_hour-outcome.new.roll (vec_items c.args.hours.now) (vec_items c.loop-package.hours) (vec_items c.push.new.self) c.book_hour-outcome.result st (g.met.I.Instrument.rules c.args.instrument.now) c.loop-package-test.true c.package-item.is b c.in_ok-push.ensures.items (c.loop-package.invariant st)
 
 pub returns : goal.returns
 returns g c = λ st.

@@ -8,7 +8,7 @@ pub returns-in-Ok : goal.returns-in-Ok
 returns-in-Ok g c =
     let few : c.args.owners ≤ 128 = omega arith in
     let e = front_length c.args.owners 128 _ few in
-    settled_as (g.I.Instrument.means c.args.instrument.now) _ _ (bytes_of c.args.packages.now) _ _ _ _ _ _ _ e c.figures.ensures (front_again c.args.owners c.settle-on.new.roll _ _ c.settle-on.auto.roll e) c.in-Ok.ensures
+    settled_as (g.I.Instrument.means c.args.instrument.now) _ _ (bytes_of c.args.packages.now) _ _ _ _ _ _ _ e c.figures.ensures (front_again c.args.owners c.settle_on.new.roll _ _ c.settle_on.auto.roll e) c.in-Ok.ensures
 
 pub returns-in-Err : goal.returns-in-Err
 returns-in-Err g c =

@@ -15,5 +15,5 @@ returns-in-Err-post g c =
 pub returns : goal.returns
 returns g c =
     let t = tables (plain_day c.args.day.now) c.args.constraints.now c.args.points.now c.args.factors.now c.args.holdings.now in
-    let e = stated_first (g.I.Instrument.means c.args.instrument.now) t _ _ _ _ _ _ _ _ (length c.args.out.now) _ _ c.in-Ok.ensures.done.month_after c.in-Ok.ensures.done.roll_after c.in-Ok-post.ensures refl refl c.figures-of.ensures in
-    record { answer = c.write-statement.ensures.answer ∙ ap length_of e; buffer = c.write-statement.ensures.buffer ∙ ap (λ (r : Result (List ℕ) Told). written r c.args.out.now) e }
+    let e = stated_first (g.I.Instrument.means c.args.instrument.now) t _ _ _ _ _ _ _ _ (length c.args.out.now) _ _ c.in-Ok.ensures.done.month_after c.in-Ok.ensures.done.roll_after c.in-Ok-post.ensures refl refl c.figures_of.ensures in
+    record { answer = c.write_statement.ensures.answer ∙ ap length_of e; buffer = c.write_statement.ensures.buffer ∙ ap (λ (r : Result (List ℕ) Told). written r c.args.out.now) e }

@@ -13,9 +13,9 @@ returns-in-Ok g c =
     let a = c.in-Ok.ensures in
     let m = g.I.Instrument.means c.args.instrument.now in
     let room = length c.args.out.now in
-    let e = ap (λ (r : Result Tables Told). within room (read m r)) (read_slices c.args.bytes.now (seen_in c.in-Ok.hour) _ _ _ _ _ _ _ _ a.answer a.constraint-rows a.point-rows a.factor-rows a.holding-rows) in
-    let told = c.settle-hour.ensures.answer ∙ ap length_of e in
-    record { inside = made_fits room c.settle-hour.result _ told; answer = told; buffer = c.settle-hour.ensures.buffer ∙ ap (λ (r : Result (List ℕ) Told). written r c.args.out.now) e }
+    let e = ap (λ (r : Result Tables Told). within room (read m r)) (read_slices c.args.bytes.now (seen_in c.in-Ok.hour) _ _ _ _ _ _ _ _ a.answer a.constraint_rows a.point_rows a.factor_rows a.holding_rows) in
+    let told = c.settle_hour.ensures.answer ∙ ap length_of e in
+    record { inside = made_fits room c.settle_hour.result _ told; answer = told; buffer = c.settle_hour.ensures.buffer ∙ ap (λ (r : Result (List ℕ) Told). written r c.args.out.now) e }
 
 pub returns-in-Err : goal.returns-in-Err
 returns-in-Err g c =
