@@ -2,7 +2,7 @@
 
 #![tactic(auto)]
 
-mod hours;
+mod hour_lines;
 mod text;
 mod totals;
 

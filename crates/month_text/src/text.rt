@@ -3,7 +3,7 @@ ghost use Rattle.month.specs.Months.{of_told};
 ghost use Rattle.month_text.specs.Lines.{names_of};
 ghost use Rattle.month_text.specs.Months.{month_text};
 
-use crate::hours::push_outcomes;
+use crate::hour_lines::push_outcomes;
 use crate::totals::push_totals;
 use ledger::LoadLine;
 use line_text::push_lines;

@@ -7,11 +7,11 @@ use Rattle.month_text.proofs.totals.push_totals.Goals as goal
 pub returns : goal.returns
 returns c =
     let x = string_bytes c.args.text.now in
-    let earned = string_bytes c.push-earned.new.text in
-    let repaid = string_bytes c.push-repaid.new.text in
-    let ins = string_bytes c.push-in.new.text in
-    let outs = string_bytes c.push-out.new.text in
+    let earned = string_bytes c.push_earned.new.text in
+    let repaid = string_bytes c.push_repaid.new.text in
+    let ins = string_bytes c.push_in.new.text in
+    let outs = string_bytes c.push_out.new.text in
     let f = of_told c.args.m.now in
-    let last = joined_made c.push-out.result repaid ins outs (in_text f) (out_text f) c.in-ok-push-in.ensures c.push-out.ensures in
-    let more = joined_made c.push-out.result earned repaid outs (repaid_text f) (in_text f ++ out_text f) c.in-ok-push-repaid.ensures last in
-    joined_made c.push-out.result x earned outs (earned_text f) (repaid_text f ++ (in_text f ++ out_text f)) c.in-ok-push-earned.ensures more
+    let last = joined_made c.push_out.result repaid ins outs (in_text f) (out_text f) c.in_ok-push_in.ensures c.push_out.ensures in
+    let more = joined_made c.push_out.result earned repaid outs (repaid_text f) (in_text f ++ out_text f) c.in_ok-push_repaid.ensures last in
+    joined_made c.push_out.result x earned outs (earned_text f) (repaid_text f ++ (in_text f ++ out_text f)) c.in_ok-push_earned.ensures more

@@ -43,7 +43,11 @@ fn push_refused(text: &mut String, name: &str, refusal: Refusal) -> Result<(), A
 }
 
 /// Appends what became of a package.
-fn push_outcome(text: &mut String, name: &str, outcome: &Result<BookedHour, Refusal>) -> Result<(), AllocError>
+fn push_outcome(
+    text: &mut String,
+    name: &str,
+    outcome: &Result<BookedHour, Refusal>,
+) -> Result<(), AllocError>
     ensures { OnOk result (string_bytes text.new ≡ string_bytes text.old ++ outcome_text name.now outcome.now) }
 {
     match outcome {

@@ -1,7 +1,7 @@
 use Rattle.std.proofs.Common.{w64, SFits, rules}
 use Rattle.std.proofs.lemmas.Int.{to_z-of_z}
 use Rattle.month_text.specs.Lines.{booked_head}
-use Rattle.month_text.proofs.hours.push_head.Goals as goal
+use Rattle.month_text.proofs.hour_lines.push_head.Goals as goal
 
 pub returns : goal.returns
 unfolding booked_head
