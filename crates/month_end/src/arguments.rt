@@ -1,3 +1,4 @@
+use anyhow::anyhow;
 use ledger::{LoadLine, NOTHING};
 use std::env;
 
@@ -12,13 +13,10 @@ pub(crate) struct Job {
 }
 
 /// How many owners a word says.
-fn owners_of(rt: &HostRuntime, word: &str) -> anyhow::Result<usize> {
+fn owners_of(word: &str) -> anyhow::Result<usize> {
     match word.parse::<usize>() {
         Ok(owners) => Ok(owners),
-        Err(_) => {
-            let text = format!(in rt.alloc(); "owners: '{word}' is no number")?;
-            Err(text.into())
-        }
+        Err(_) => Err(anyhow!("owners: '{word}' is no number")),
     }
 }
 
@@ -31,10 +29,7 @@ fn loads_of(rt: &HostRuntime, words: &str) -> anyhow::Result<Vec<LoadLine>> {
     for word in words.split(',') {
         match word.parse::<u32>() {
             Ok(mwh) => loads.push(LoadLine { mwh, paid: NOTHING })?,
-            Err(_) => {
-                let text = format!(in rt.alloc(); "loads: '{word}' is no number of MWh")?;
-                return Err(text.into());
-            }
+            Err(_) => return Err(anyhow!("loads: '{word}' is no number of MWh")),
         }
     }
     Ok(loads)
@@ -48,9 +43,9 @@ impl Job {
             words.push(word)?;
         }
         if words.len() < 2 {
-            return Err(USAGE.into());
+            return Err(anyhow!("{USAGE}"));
         }
-        let owners = owners_of(rt, words[0].as_str())?;
+        let owners = owners_of(words[0].as_str())?;
         let loads = loads_of(rt, words[1].as_str())?;
         let mut names = Vec::new(rt.alloc());
         for word in words.into_iter().skip(2) {

@@ -1,3 +1,4 @@
+use anyhow::anyhow;
 use input::read_up_to;
 use std::fs::File;
 use std::io;
@@ -19,10 +20,7 @@ pub(crate) fn read_packages(rt: &HostRuntime, names: &[String]) -> anyhow::Resul
     for name in names {
         match read_package_file(rt, name.as_str()) {
             Ok(package) => packages.push(package)?,
-            Err(e) => {
-                let text = format!(in rt.alloc(); "{name}: {e}")?;
-                return Err(text.into());
-            }
+            Err(e) => return Err(anyhow!("{name}: {e}")),
         }
     }
     Ok(packages)

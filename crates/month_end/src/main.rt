@@ -37,7 +37,7 @@ fn run(rt: &HostRuntime) -> anyhow::Result<()> {
             rt.stdout().write_all(text.as_bytes())?;
             Ok(())
         }
-        Err(error) => Err(because(rt, error)),
+        Err(error) => Err(because(error)),
     }
 }
 

@@ -1,3 +1,4 @@
+use anyhow::anyhow;
 use month_settlement::{MonthError, Progress};
 
 /// Hours between two lines of progress.
@@ -18,12 +19,9 @@ impl Progress for ToStandardError<'_> {
 }
 
 /// Why the month was not settled, in words.
-pub(crate) fn because(rt: &HostRuntime, error: MonthError) -> anyhow::Error {
+pub(crate) fn because(error: MonthError) -> anyhow::Error {
     match error {
-        MonthError::Refused(refusal) => match format!(in rt.alloc(); "the month is {refusal}") {
-            Ok(text) => text.into(),
-            Err(e) => e.into(),
-        },
-        MonthError::OutOfMemory => "out of memory".into(),
+        MonthError::Refused(refusal) => anyhow!("the month is {refusal}"),
+        MonthError::OutOfMemory => anyhow!("out of memory"),
     }
 }
