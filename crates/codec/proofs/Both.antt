@@ -1,17 +1,16 @@
 -- Reading and writing the fields of a record undo each other, for each kind.
-use Rattle.std.proofs.Common.{◌≡◌, ℕ, ◌+◌, ◌-◌, ◌*◌, ◌/◌, ◌%◌, ◌^◌, ◌<◌, ◌≤◌, Bool, true, false, cond, ◌&&◌, eqb, List, [], ◌∷◌, ◌++◌, length, get_or, drop, ℤ, pos, negsuc, Some, None, Ok, Err, Option, Result, sym, refl, ap, ◌∙◌, subst, arith, length-append, length-drop, w32, SFits, eq-eqb, eqb-true}
+use Rattle.std.proofs.Common.{◌≡◌, ℕ, ◌+◌, ◌*◌, ◌^◌, ◌<◌, Bool, true, false, cond, ◌&&◌, eqb, List, ◌∷◌, ◌++◌, length, get_or, drop, ℤ, pos, negsuc, Some, None, Ok, Err, Option, sym, refl, ap, ◌∙◌, arith, length-drop, w32, SFits, eq-eqb, eqb-true}
 use Rattle.std.proofs.lemmas.Bool.Decides.{nat_tests}
-use Rattle.refusals.specs.Numbers.{Told, refused_at}
+use Rattle.refusals.specs.Numbers.{refused_at}
 use Rattle.rows.specs.declared.letters.PointKind.{PointKind}
-use Rattle.rows.specs.declared.letters.InstrumentKind.{InstrumentKind}
 use Rattle.rows.specs.declared.plain.ConstraintRow.{ConstraintRow}
 use Rattle.rows.specs.declared.plain.DayRow.{DayRow}
 use Rattle.rows.specs.declared.plain.HoldingRow.{HoldingRow}
 use Rattle.rows.specs.declared.plain.PointRow.{PointRow}
-use Rattle.rows.specs.Letters.{point_of, instrument_of}
+use Rattle.rows.specs.Letters.{point_of}
 use Rattle.rows.specs.Ranges.{day_ok, constraint_ok, point_ok, factor_ok, holding_ok, price_ok, resource_prices_ok}
-use Rattle.codec.specs.Bytes.{Bytes, be2, be4, be8, twos4, num2, num4, num8, num2_at, num4_at, num8_at, int4_at}
-use Rattle.codec.specs.Records.{encode_day, day_at, encode_constraint, constraint_at, encode_point, point_at, encode_factors, factors_at, encode_holding, holding_at, every, sized, decoded, Placed, placed_at, placed_ok, encode_placed, HoldingFits}
+use Rattle.codec.specs.Bytes.{Bytes, be2, be8, twos4, num2_at, num8_at, int4_at}
+use Rattle.codec.specs.Records.{encode_day, day_at, encode_constraint, constraint_at, encode_point, point_at, encode_factors, factors_at, encode_holding, holding_at, every, decoded, Placed, placed_at, placed_ok, encode_placed, HoldingFits}
 use Rattle.codec.proofs.Trips.{num2_be2, num4_be4, num8_be8, be2_num2, be4_num4, be8_num8, int4_twos4, twos4_int4}
 use Rattle.codec.proofs.Spelled.{spell, spelled, spelled_front, bytes_drop}
 use Rattle.codec.proofs.Pairs.{and_left, and_right, factors_back, factors_canon, factors_length, encoded_length}

@@ -1,9 +1,9 @@
 -- Shift factors, two bytes at a time.
-use Rattle.std.proofs.Common.{◌≡◌, ℕ, zero, suc, ◌+◌, ◌-◌, ◌*◌, ◌/◌, ◌%◌, ◌<◌, ◌≤◌, Bool, true, false, ◌&&◌, List, [], ◌∷◌, ◌++◌, length, get_or, take, drop, set, ℤ, pos, negsuc, sym, refl, ap, ◌∙◌, append_assoc, append-nil, arith, length-append, length-set, w16, SFits}
+use Rattle.std.proofs.Common.{◌≡◌, ℕ, suc, ◌+◌, ◌-◌, ◌*◌, ◌/◌, ◌%◌, ◌<◌, ◌≤◌, Bool, true, false, ◌&&◌, List, [], ◌∷◌, ◌++◌, length, get_or, take, drop, set, ℤ, pos, negsuc, sym, refl, ap, ◌∙◌, append_assoc, append-nil, arith, length-set, w16, SFits}
 use Rattle.std.proofs.lemmas.List.{take_rest, take_more_set, drop-set-lt, length-take-le, drop-drop, take-append-drop}
 use Rattle.std.proofs.lemmas.Bool.Decides.{nat_tests}
 use Rattle.rows.specs.Ranges.{factor_ok}
-use Rattle.codec.specs.Bytes.{Bytes, int2, twos2}
+use Rattle.codec.specs.Bytes.{Bytes, int2}
 use Rattle.codec.specs.Records.{every, factors_at, encode_factors}
 use Rattle.codec.proofs.Trips.{int2_twos2, twos2_int2}
 

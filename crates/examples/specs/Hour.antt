@@ -1,6 +1,5 @@
 -- The hour of the settled examples: four points and one constraint.
-use Rattle.std.specs.Prelude.{ℕ, List, [], ◌∷◌, ℤ, pos, neg_ℤ}
-use Rattle.rows.specs.declared.plain.ConstraintRow.{ConstraintRow}
+use Rattle.std.specs.Prelude.{ℕ, [], ◌∷◌, ℤ, pos, neg_ℤ}
 use Rattle.rows.specs.declared.plain.PointRow.{PointRow}
 use Rattle.rows.specs.declared.plain.HoldingRow.{HoldingRow}
 use Rattle.rows.specs.declared.letters.PointKind.{PointKind}

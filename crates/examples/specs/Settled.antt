@@ -1,5 +1,5 @@
 -- The settled examples: figures that the definitions give, beside what they must be.
-use Rattle.std.specs.Prelude.{◌≡◌, ℕ, List, [], ◌∷◌, ℤ, pos, neg_ℤ, Ok, Err, Result}
+use Rattle.std.specs.Prelude.{◌≡◌, List, [], ◌∷◌, ℤ, pos, neg_ℤ, Ok, Err, Result}
 use Rattle.refusals.specs.Numbers.{Told}
 use Rattle.rows.specs.declared.plain.HoldingRow.{HoldingRow}
 use Rattle.rows.specs.declared.letters.InstrumentKind.TheVariants.{Obligation, PtpOption, OptionWithRefund}

@@ -4,7 +4,6 @@ use Rattle.rows.specs.declared.plain.HoldingRow.{HoldingRow}
 use Rattle.payoff.specs.Tables.{empty_hour}
 use Rattle.payoff.specs.Rules.{Meaning}
 use Rattle.sharing.specs.Shares.{share_of}
-use Rattle.rights.specs.Rights.{no_holding}
 use Rattle.ledger.specs.declared.lines.LoadLine.{LoadLine}
 use Rattle.ledger.specs.Lines.{cents}
 use Rattle.ledger.specs.Posting.{Posting, posting_of, rent_of, dues_of, answer_of}

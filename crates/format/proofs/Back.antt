@@ -1,19 +1,19 @@
 -- The package of an hour in range is read as that hour.
-use Rattle.std.proofs.Common.{◌≡◌, ℕ, zero, suc, ◌+◌, ◌-◌, ◌*◌, ◌^◌, ◌<◌, ◌≤◌, Bool, true, false, cond, ◌&&◌, eqb, ltb, leb, List, [], ◌∷◌, ◌++◌, length, get_or, drop, Ok, Err, Result, sym, refl, ap, ◌∙◌, append_assoc, append-nil, suc-mul, mul-le-mul, arith, lit<, length-append, lt-ltb, eq-eqb, le-leb}
+use Rattle.std.proofs.Common.{◌≡◌, ℕ, zero, suc, ◌+◌, ◌-◌, ◌*◌, ◌<◌, ◌≤◌, Bool, true, eqb, ltb, leb, List, [], ◌∷◌, ◌++◌, length, get_or, drop, Ok, Result, sym, refl, ap, ◌∙◌, append_assoc, append-nil, suc-mul, mul-le-mul, arith, lit<, length-append, lt-ltb, eq-eqb, le-leb}
 use Rattle.std.specs.List.{AllByRecursion as All}
-use Rattle.refusals.specs.Numbers.{Told, refused_at}
+use Rattle.refusals.specs.Numbers.{Told}
 use Rattle.rows.specs.declared.plain.ConstraintRow.{ConstraintRow}
 use Rattle.rows.specs.declared.plain.DayRow.{DayRow}
 use Rattle.rows.specs.declared.plain.HoldingRow.{HoldingRow}
 use Rattle.rows.specs.Ranges.{day_ok, constraint_ok, holding_ok}
-use Rattle.codec.specs.Bytes.{be4, num4, num4_at}
-use Rattle.codec.specs.Records.{Placed, placed_at, placed_ok, constraint_at, holding_at, day_at, encode_day, encode_constraint, encode_placed, encode_holding, decode_day, decode_constraint, decode_point, decode_holding, answered}
+use Rattle.codec.specs.Bytes.{be4, num4_at}
+use Rattle.codec.specs.Records.{Placed, placed_at, placed_ok, constraint_at, holding_at, day_at, encode_day, encode_constraint, encode_placed, encode_holding, decode_day, decode_constraint, decode_point, decode_holding}
 use Rattle.codec.proofs.Trips.{num4_be4}
 use Rattle.codec.proofs.Both.{taken, day_back, constraint_back, placed_back, placed_length, holding_back}
-use Rattle.records.specs.Frames.{Frame, End, Bad, One, frame_of, framed}
+use Rattle.records.specs.Frames.{Frame, frame_of, framed}
 use Rattle.records.proofs.Cuts.{frame_back}
 use Rattle.format.specs.Hours.{Hour, hour, records_of, body, package_of}
-use Rattle.format.specs.Reading.{none, admit, with_constraint, with_point, with_holding, takes, after, on_frame, run, on_first, reads}
+use Rattle.format.specs.Reading.{admit, with_constraint, with_point, with_holding, takes, after, on_frame, run, on_first, reads}
 use Rattle.format.proofs.Canon.{Good, PointGood, HoldingGood}
 
 -- one record of each kind is taken

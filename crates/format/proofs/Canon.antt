@@ -1,5 +1,5 @@
 -- A package that is taken is that of the hour that was read from it.
-use Rattle.std.proofs.Common.{◌≡◌, ℕ, zero, suc, ◌+◌, ◌-◌, ◌*◌, ◌<◌, ◌≤◌, Bool, true, false, cond, ◌&&◌, eqb, leb, List, [], ◌∷◌, ◌++◌, length, get_or, drop, Ok, Err, Result, sym, refl, ap, ◌∙◌, subst, append_assoc, append-nil, arith, length-append, length-drop, eqb-true, leb-true}
+use Rattle.std.proofs.Common.{◌≡◌, ℕ, zero, suc, ◌+◌, ◌-◌, ◌*◌, ◌≤◌, Bool, true, false, cond, ◌&&◌, eqb, leb, List, [], ◌∷◌, ◌++◌, length, get_or, drop, Ok, Err, Result, sym, refl, ap, ◌∙◌, subst, append_assoc, append-nil, arith, length-append, length-drop, eqb-true, leb-true}
 use Rattle.std.proofs.lemmas.List.{nil_from_length}
 use Rattle.std.proofs.ByRecursion.{All-push}
 use Rattle.std.specs.List.{AllByRecursion as All}
@@ -7,12 +7,11 @@ use Rattle.refusals.specs.Numbers.{Told, refused_at}
 use Rattle.rows.specs.declared.plain.ConstraintRow.{ConstraintRow}
 use Rattle.rows.specs.declared.plain.DayRow.{DayRow}
 use Rattle.rows.specs.declared.plain.HoldingRow.{HoldingRow}
-use Rattle.rows.specs.Ranges.{between, day_ok, constraint_ok, holding_ok}
-use Rattle.codec.specs.Bytes.{Bytes, be4, num4, num4_at}
-use Rattle.codec.specs.Records.{Placed, placed_at, placed_ok, HoldingFits, constraint_at, holding_at, day_at, encode_day, encode_constraint, encode_placed, encode_holding, decode_day, decode_constraint, decode_point, decode_holding}
+use Rattle.rows.specs.Ranges.{day_ok, constraint_ok, holding_ok}
+use Rattle.codec.specs.Bytes.{Bytes, be4, num4_at}
+use Rattle.codec.specs.Records.{Placed, placed_at, placed_ok, HoldingFits, constraint_at, holding_at, day_at, encode_day, encode_constraint, encode_placed, encode_holding, decode_day}
 use Rattle.codec.proofs.Trips.{be4_num4}
-use Rattle.codec.proofs.Spelled.{spell, spelled_front, bytes_left, bytes_right, bytes_drop}
-use Rattle.codec.proofs.Pairs.{and_left, and_right}
+use Rattle.codec.proofs.Spelled.{spelled_front, bytes_left, bytes_right, bytes_drop}
 use Rattle.codec.proofs.Both.{told, day_canon, constraint_canon, placed_canon, placed_factors, holding_canon, holding_fits}
 use Rattle.records.specs.Frames.{Frame, End, Bad, One, frame_of, framed}
 use Rattle.records.proofs.Cuts.{frame_canon, frame_end}

@@ -1,11 +1,11 @@
 -- What is known of a record that is taken.
-use Rattle.std.proofs.Common.{◌≡◌, ℕ, ◌+◌, ◌<◌, Bool, true, false, cond, ◌&&◌, eqb, ltb, List, [], ◌∷◌, ◌++◌, length, Ok, Err, Result, sym, refl, ap, ◌∙◌, arith, ltb-true, eqb-true}
+use Rattle.std.proofs.Common.{◌≡◌, ℕ, ◌<◌, Bool, true, false, cond, ◌&&◌, eqb, ltb, List, length, Ok, Err, Result, refl, arith, ltb-true, eqb-true}
 use Rattle.refusals.specs.Numbers.{Told, refused_at}
 use Rattle.rows.specs.declared.plain.ConstraintRow.{ConstraintRow}
 use Rattle.rows.specs.declared.plain.HoldingRow.{HoldingRow}
 use Rattle.codec.specs.Records.{Placed, decode_constraint, decode_point, decode_holding, answered}
 use Rattle.codec.proofs.Pairs.{and_left, and_right}
-use Rattle.format.specs.Hours.{Hour, hour}
+use Rattle.format.specs.Hours.{Hour}
 use Rattle.format.specs.Reading.{none, admit, with_constraint, with_point, with_holding, takes}
 
 -- a refusal is no answer

@@ -1,16 +1,16 @@
 -- Reading and writing undo each other, by the tables.
-use Rattle.std.proofs.Common.{◌≡◌, ℕ, suc, ◌+◌, ◌*◌, ◌≤◌, Bool, true, false, cond, ◌&&◌, eqb, leb, List, [], ◌∷◌, ◌++◌, length, take, drop, ℤ, Some, None, Ok, Err, Option, Result, sym, refl, ap, ◌∙◌, subst, suc-mul, arith, length-append, length-drop, eq-eqb, eqb-true, le-leb, leb-true}
+use Rattle.std.proofs.Common.{◌≡◌, ℕ, suc, ◌*◌, ◌≤◌, Bool, true, false, cond, ◌&&◌, eqb, leb, List, [], ◌∷◌, ◌++◌, length, take, drop, ℤ, Some, None, Ok, Err, Option, sym, refl, ap, ◌∙◌, subst, suc-mul, arith, length-append, length-drop, eq-eqb, eqb-true, le-leb, leb-true}
 use Rattle.std.specs.Option.{option_map}
 use Rattle.std.specs.List.{AllByRecursion as All}
 use Rattle.std.proofs.ByRecursion.{All-take, All-drop, All-append}
 use Rattle.std.proofs.lemmas.List.{length-take-le, take-append-drop, take_at, drop_at, length-map, nil_from_length}
-use Rattle.refusals.specs.Numbers.{Told, refused_at}
+use Rattle.refusals.specs.Numbers.{refused_at}
 use Rattle.rows.specs.declared.plain.HoldingRow.{HoldingRow}
 use Rattle.rows.specs.declared.plain.PointRow.{PointRow}
 use Rattle.rows.specs.Firsts.{first_bad}
 use Rattle.rows.specs.Ranges.{day_ok, constraint_ok, point_ok, factor_ok, holding_ok}
 use Rattle.codec.specs.Bytes.{Bytes}
-use Rattle.codec.specs.Records.{Placed, placed_ok, HoldingFits, every, answered}
+use Rattle.codec.specs.Records.{Placed, HoldingFits, every, answered}
 use Rattle.codec.proofs.Pairs.{and_left, and_right}
 use Rattle.format.specs.Hours.{Hour, hour, Tables, tables, tables_of, points_of, factors_of, placed, hour_of, package_of}
 use Rattle.format.specs.Reading.{reads, reads_tables}

@@ -1,5 +1,5 @@
 -- The owners' lines of an hour that was posted as a month's first, or its refusal.
-use Rattle.std.proofs.Common.{◌≡◌, ℕ, ◌-◌, min, List, ◌++◌, length, take, replicate, ℤ, IfOk, Some, None, Ok, Err, Option, Result, sym, refl, ap, ◌∙◌, subst}
+use Rattle.std.proofs.Common.{◌≡◌, ℕ, ◌-◌, min, List, ◌++◌, take, replicate, ℤ, IfOk, Ok, Err, Option, Result, sym, ap, ◌∙◌, subst}
 use native.Mathlib.Nat.{sub-zero}
 use Rattle.refusals.specs.Numbers.{Told}
 use Rattle.rows.specs.declared.plain.HoldingRow.{HoldingRow}

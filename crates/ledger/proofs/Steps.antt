@@ -15,7 +15,7 @@ use Rattle.ledger.specs.declared.lines.HourLine.{HourLine}
 use Rattle.ledger.specs.declared.lines.RollLine.{RollLine}
 use Rattle.ledger.specs.declared.lines.LoadLine.{LoadLine}
 use Rattle.ledger.specs.Lines.{lines_of, clear_roll, clear_load, refunded as given, paid_out}
-use Rattle.ledger.specs.Hour.{short, left, own_short, hour_line_of}
+use Rattle.ledger.specs.Hour.{left, own_short, hour_line_of}
 use Rattle.ledger.specs.Figures.{Figures}
 use Rattle.ledger.specs.Calls.{refund_sum, short_in, refunded_line, after_refund, load_total, mwh_in, load_ok, paid_line, after_close, RefundAccepted, CloseAccepted}
 use Rattle.ledger.specs.Posting.{Posting, amount_in, rent_of, dues_of, after_post, added_to, posted_line, answer_of, PostAccepted}

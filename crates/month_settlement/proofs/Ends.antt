@@ -1,5 +1,5 @@
 -- The end of a month: its run with the refund and the close.
-use Rattle.std.proofs.Common.{◌≡◌, ℕ, ◌<◌, List, [], ◌∷◌, ◌++◌, map, length, Some, None, Option, Result, sym, refl, ap, ◌∙◌, subst}
+use Rattle.std.proofs.Common.{◌≡◌, ℕ, ◌<◌, List, [], ◌∷◌, ◌++◌, map, length, Some, None, Option, Result, sym, ap, ◌∙◌, subst}
 use Rattle.refusals.specs.declared.refusal.Refusal.{Refusal}
 use Rattle.refusals.specs.Numbers.{Told, told, told_by}
 use Rattle.payoff.specs.Rules.{Meaning}
@@ -9,12 +9,12 @@ use Rattle.ledger.specs.Lines.{lines_of}
 use Rattle.ledger.specs.Figures.{Figures}
 use Rattle.ledger.specs.Calls.{first_refusal, refund_test, close_test, RefundAccepted, CloseAccepted}
 use Rattle.ledger.specs.Ledger.{Ledger, blank, noted, ledger_from, with_refund, with_loads, refunded, closed, figures_of, owner_line, load_line}
-use Rattle.ledger.specs.Runs.{Cell, cell, is_open, is_refunded, is_closed, refunds, closes, Move, Chain, events_of, EventHolds, EachHolds, Holds, Balanced, Stands}
+use Rattle.ledger.specs.Runs.{cell, is_open, is_refunded, is_closed, refunds, closes, Move, Chain, events_of, EventHolds, EachHolds, Holds, Balanced, Stands}
 use Rattle.ledger.proofs.Runs.{holds_alone}
 use Rattle.month_settlement.specs.declared.outcomes.BookedHour.{BookedHour}
 use Rattle.month_settlement.specs.declared.outcomes.MonthError.{MonthError}
 use Rattle.month_settlement.specs.declared.outcomes.MonthError.TheVariants.{Refused}
-use Rattle.month_settlement.specs.Books.{outcomes_of, hours_ledger, closed_ledger, roll_test, ending_test, month_test, MonthSettled, MonthRefused}
+use Rattle.month_settlement.specs.Books.{outcomes_of, hours_ledger, roll_test, ending_test, month_test, MonthSettled, MonthRefused}
 use Rattle.month_settlement.specs.Running.{RanTo, PostedAll, Ended, EndRefused, no_refund, no_close}
 use Rattle.month_settlement.proofs.Ran.{move, chain_more, ledger_more, ran_figures, ran_roll}
 

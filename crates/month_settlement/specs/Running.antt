@@ -5,7 +5,6 @@ use Rattle.refusals.specs.declared.refusal.Refusal.{Refusal}
 use Rattle.refusals.specs.Numbers.{Told, told_by}
 use Rattle.payoff.specs.Rules.{Meaning}
 use Rattle.format.specs.Hours.{Tables}
-use Rattle.ledger.specs.declared.lines.HourAnswer.{HourAnswer}
 use Rattle.ledger.specs.declared.lines.HourLine.{HourLine}
 use Rattle.ledger.specs.declared.lines.LoadLine.{LoadLine}
 use Rattle.ledger.specs.declared.lines.RollLine.{RollLine}

@@ -1,13 +1,13 @@
 -- The tests by counts, and one step of the records by what comes next.
-use Rattle.std.proofs.Common.{◌≡◌, ℕ, zero, suc, ◌+◌, ◌<◌, Bool, true, false, cond, ◌&&◌, eqb, ltb, ◌≢◌, List, [], ◌∷◌, ◌++◌, length, Ok, Err, Result, sym, refl, ap, ◌∙◌, arith, length-append, ne_eqb}
+use Rattle.std.proofs.Common.{◌≡◌, ℕ, zero, suc, ◌+◌, ◌<◌, Bool, true, false, cond, ◌&&◌, eqb, ltb, ◌≢◌, List, [], ◌∷◌, length, Ok, Err, Result, sym, refl, ap, ◌∙◌, arith, length-append, ne_eqb}
 use Rattle.refusals.specs.Numbers.{Told, refused_at}
 use Rattle.codec.specs.Records.{decode_constraint, decode_point, decode_holding, answered}
-use Rattle.records.specs.Frames.{Frame, End, Bad, One, frame_of}
+use Rattle.records.specs.Frames.{End, Bad, One, frame_of}
 use Rattle.format.specs.Hours.{Hour}
 use Rattle.format.specs.Reading.{none, admit, with_constraint, with_point, with_holding, takes, run}
 use Rattle.format.proofs.Taking.{refused, answered_inv}
 use Rattle.packages.specs.declared.counts.Counts.{Counts}
-use Rattle.packages.specs.Counting.{counts, counted, count_constraint, count_point, count_holding, count_takes}
+use Rattle.packages.specs.Counting.{counts, counted, count_constraint, count_point, count_takes}
 
 -- what an answer's value is seen by does not change its refusal
 pub unseen_ok : {X Y Z : Type 0} (f : X → Y) (z : Z) (r : Result X Told) (y : Y) → Ok y ≡ answered f r → Ok z ≡ answered (λ _. z) r

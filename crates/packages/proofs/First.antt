@@ -1,20 +1,20 @@
 -- The hour of a package, by its day row's record and the counts of the others.
-use Rattle.std.proofs.Common.{◌≡◌, ℕ, suc, ◌+◌, ◌*◌, ◌^◌, ◌<◌, ◌≤◌, true, cond, eqb, List, [], length, drop, Ok, Err, Result, sym, refl, ap, ◌∙◌, subst, mul-le-mul, arith, length-append, length-drop, eq-eqb}
+use Rattle.std.proofs.Common.{◌≡◌, ℕ, ◌*◌, ◌^◌, ◌<◌, ◌≤◌, true, cond, eqb, List, [], length, drop, Ok, Err, Result, sym, ap, ◌∙◌, subst, mul-le-mul, arith, length-append, length-drop, eq-eqb}
 use Rattle.std.proofs.lemmas.List.{length-map}
 use Rattle.refusals.specs.Numbers.{Told, refused_at}
 use Rattle.rows.specs.declared.plain.DayRow.{DayRow}
 use Rattle.codec.specs.Bytes.{Bytes}
 use Rattle.codec.specs.Records.{decode_day, answered}
 use Rattle.codec.proofs.Spelled.{bytes_drop, bytes_right}
-use Rattle.records.specs.Frames.{Frame, One, frame_of, framed}
+use Rattle.records.specs.Frames.{One, frame_of, framed}
 use Rattle.records.proofs.Cuts.{frame_canon}
-use Rattle.format.specs.Hours.{Hour, hour, tables_of, points_of, factors_of}
+use Rattle.format.specs.Hours.{Hour, hour, tables_of, factors_of}
 use Rattle.format.specs.Reading.{after, run, on_first}
 use Rattle.format.proofs.Taking.{refused, answered_inv}
 use Rattle.format.proofs.Canon.{Good, new_good, run_canon}
 use Rattle.format.proofs.Ways.{rows_length}
 use Rattle.packages.specs.declared.counts.Counts.{Counts}
-use Rattle.packages.specs.Counting.{counts, counted, Seen, seen_of}
+use Rattle.packages.specs.Counting.{counted, Seen, seen_of}
 
 -- what is told of an hour
 abbrev pub told_of : Hour → Seen

@@ -4,7 +4,7 @@ use borrow.Rule.Slice.PartMut.{put_mid}
 use Rattle.std.proofs.lemmas.List.{take_more_set, map-append, drop_all, take_rest, length-take-le}
 use Rattle.std.proofs.lemmas.Slice.{take-put_mid}
 use Rattle.std.specs.List.{AllByRecursion as All}
-use Rattle.records.specs.Frames.{Frame, One, frame_of, framed}
+use Rattle.records.specs.Frames.{One, frame_of, framed}
 use Rattle.records.proofs.Cuts.{frame_back}
 use Rattle.codec.specs.Records.{Placed, encode_placed, factors_at, filled}
 use Rattle.codec.proofs.Both.{placed_length}

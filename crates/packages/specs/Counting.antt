@@ -1,5 +1,5 @@
 -- The tests of records by how many came before.
-use Rattle.std.specs.Prelude.{ℕ, ◌+◌, true, cond, ◌&&◌, List, length, Ok, Err, Result, ◌==◌, nat_lt}
+use Rattle.std.specs.Prelude.{ℕ, ◌+◌, true, cond, ◌&&◌, List, length, Err, Result, ◌==◌, nat_lt}
 use Rattle.refusals.specs.Numbers.{Told, refused_at}
 use Rattle.rows.specs.declared.plain.DayRow.{DayRow}
 use Rattle.rows.specs.Plain.{plain_day}

@@ -1,5 +1,5 @@
 -- What a holding is paid by, where its four figures are not all worked out.
-use Rattle.std.proofs.Common.{◌≡◌, ℕ, true, false, ℤ, pos, ◌-ℤ◌, ◌≤ℤ◌, Some, None, Option, ap, arith}
+use Rattle.std.proofs.Common.{◌≡◌, ℕ, true, ℤ, pos, ◌-ℤ◌, ◌≤ℤ◌, Some, None, Option, ap, arith}
 use borrow.Author.Differences.{ints}
 use Rattle.std.specs.Int.{int_max}
 use Rattle.std.specs.Option.{option_map}

@@ -1,5 +1,5 @@
 -- The meaning of each instrument.
-use Rattle.std.specs.Prelude.{ℕ, ◌+◌, ◌*◌, ◌/◌, min, cond, not, ◌&&◌, ℤ, pos, Some, None, Option, ◌==◌, int_lt}
+use Rattle.std.specs.Prelude.{ℕ, ◌+◌, ◌*◌, ◌/◌, min, cond, not, ◌&&◌, ℤ, pos, Some, None, ◌==◌, int_lt}
 use Rattle.std.specs.Option.{option_map}
 use Rattle.rows.specs.declared.plain.HoldingRow.{HoldingRow}
 use Rattle.rows.specs.declared.letters.InstrumentKind.TheVariants.{Obligation, PtpOption, ObligationWithRefund, OptionWithRefund}

@@ -1,5 +1,5 @@
 -- The instruments keep the payoff rules.
-use Rattle.std.specs.Prelude.{◌≡◌, ℕ, ◌*◌, ◌<◌, ◌≤◌, min, Bool, true, false, cond, not, ◌&&◌, length, ℤ, pos, neg_ℤ, ◌≤ℤ◌, Some, None, Option, int_lt, refl}
+use Rattle.std.specs.Prelude.{◌≡◌, ℕ, ◌<◌, ◌≤◌, min, Bool, true, false, cond, ◌&&◌, length, ℤ, pos, neg_ℤ, ◌≤ℤ◌, Some, None, Option, int_lt, refl}
 use Rattle.std.proofs.Common.{sym, subst, arith}
 use Rattle.std.specs.Int.{int_min}
 use Rattle.std.specs.Option.{option_map}
@@ -15,8 +15,8 @@ use Rattle.payoff.specs.declared.target.TargetRule.TheVariants.{Spread, Positive
 use Rattle.payoff.specs.Targets.{target_by}
 use Rattle.payoff.specs.Rules.{Payoff, Meaning, Served, Lawful}
 use Rattle.payoff.specs.View.{pair_of}
-use Rattle.payoff.specs.Instruments.{figures_at, plainly, refund_quantity_of, refunded, refund}
-use Rattle.payoff.specs.Passed.{Passed, passed}
+use Rattle.payoff.specs.Instruments.{figures_at, plainly, refund_quantity, refunded, refund}
+use Rattle.payoff.specs.Passed.{passed}
 use Rattle.payoff.specs.Terms.{term_le, sum_to_le, round_le}
 
 -- the places of a pair that is on the table
@@ -119,7 +119,7 @@ cond_min false q k = omega arith
 
 refund_by : (t : Tables) (h : HoldingRow) (b : Bool) (o : Option Payoff) → Lawful t h o → Lawful t h (cond b (option_map (refunded h) o) None)
 refund_by t h true (Some f) w =
-    let q : refund_quantity_of h f.quantity f.target ≤ f.quantity = cond_min _ f.quantity _ in
+    let q : refund_quantity h f ≤ f.quantity = cond_min _ f.quantity _ in
     record {
       servable = w.servable;
       held = omega arith;
@@ -152,7 +152,7 @@ refund_lost m t h w e = sym (unserved t h (refund m t h) (refund_lawful m t h w)
 pub refund_not : (m : Meaning) (t : Tables) (h : HoldingRow) → refundable (ends_of t h) ≡ false → None ≡ refund m t h
 refund_not m t h e = rw e
 
-pub refund_is : (m : Meaning) (t : Tables) (h : HoldingRow) (f : Payoff) (q : ℕ) → refundable (ends_of t h) ≡ true → Some f ≡ m t h → q ≡ refund_quantity_of h f.quantity f.target → Some record { quantity = q; target = f.target; deration = f.deration; floor = f.floor } ≡ refund m t h
+pub refund_is : (m : Meaning) (t : Tables) (h : HoldingRow) (f : Payoff) (q : ℕ) → refundable (ends_of t h) ≡ true → Some f ≡ m t h → q ≡ refund_quantity h f → Some record { quantity = q; target = f.target; deration = f.deration; floor = f.floor } ≡ refund m t h
 refund_is m t h f q e s r = rw (e, ← s, r)
 
 -- a plain instrument serves what is on the table, and nothing else

@@ -4,7 +4,7 @@ use Rattle.std.proofs.Common.{add-mul, arith}
 use Rattle.std.specs.Option.{option_map}
 use Rattle.std.proofs.lemmas.Nat.{mul-le}
 use Rattle.std.proofs.lemmas.Bool.Decides.{nat_tests}
-use Rattle.refusals.specs.Numbers.{Told, refused_at}
+use Rattle.refusals.specs.Numbers.{refused_at}
 use Rattle.rows.specs.Firsts.{first_bad}
 use Rattle.rows.specs.Ranges.{constraint_ok, point_ok, factor_ok}
 use Rattle.rows.proofs.Firsts.{none_bad}

@@ -1,5 +1,5 @@
 -- The prices between the two ends of a holding.
-use Rattle.std.specs.Prelude.{ℕ, zero, suc, ◌+◌, ◌*◌, Bool, cond, ◌&&◌, ◌||◌, List, length, get_or, ℤ, pos, ◌-ℤ◌, ◌==◌, int_lt, slice_index_or}
+use Rattle.std.specs.Prelude.{ℕ, zero, suc, ◌+◌, ◌*◌, Bool, cond, ◌&&◌, ◌||◌, length, get_or, ℤ, pos, ◌-ℤ◌, ◌==◌, int_lt, slice_index_or}
 use Rattle.std.specs.Int.{int_max, int_min}
 use Rattle.units.specs.Parts.{positive}
 use Rattle.units.specs.Rounding.{round_deration}

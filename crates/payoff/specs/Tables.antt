@@ -1,5 +1,5 @@
 -- The hour's tables and their tests.
-use Rattle.std.specs.Prelude.{ℕ, ◌*◌, Bool, true, cond, not, ◌&&◌, List, [], length, ℤ, pos, is_some, Some, None, Option, ◌==◌, nat_le, nat_lt, slice_index_or}
+use Rattle.std.specs.Prelude.{ℕ, ◌*◌, Bool, cond, not, ◌&&◌, List, [], length, ℤ, pos, is_some, Some, None, Option, ◌==◌, nat_le, nat_lt, slice_index_or}
 use Rattle.std.specs.Option.{option_map}
 use Rattle.refusals.specs.Numbers.{Told, refused_at}
 use Rattle.rows.specs.declared.plain.ConstraintRow.{ConstraintRow}

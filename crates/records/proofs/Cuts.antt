@@ -1,9 +1,9 @@
 -- The first record of bytes: by what a slice pattern shows of them, from what was written, and back.
-use Rattle.std.proofs.Common.{◌≡◌, ℕ, suc, ◌+◌, ◌-◌, ◌*◌, ◌/◌, ◌%◌, ◌<◌, ◌≤◌, Bool, true, false, leb, List, [], ◌∷◌, ◌++◌, length, get_or, take, drop, sym, refl, ap, ◌∙◌, subst, arith, length-append, le-leb, leb-true}
+use Rattle.std.proofs.Common.{◌≡◌, ℕ, suc, ◌+◌, ◌-◌, ◌/◌, ◌%◌, ◌<◌, ◌≤◌, Bool, true, false, leb, List, [], ◌∷◌, ◌++◌, length, get_or, take, drop, sym, refl, ap, ◌∙◌, subst, arith, length-append, le-leb, leb-true}
 use Rattle.std.proofs.lemmas.List.{take_rest, length-take-le, take-append-drop, take_at, drop_at}
 use Rattle.codec.specs.Bytes.{Bytes, be2, num2}
 use Rattle.codec.proofs.Trips.{be2_num2, num2_be2}
-use Rattle.records.specs.Frames.{Frame, End, Bad, One, frame_of, cut, lettered, framed}
+use Rattle.records.specs.Frames.{End, One, frame_of, cut, lettered, framed}
 
 lettered_one : (body after : List ℕ) → 1 ≤ length body → lettered body after ≡ One (get_or body 0 0) (drop 1 body) after
 lettered_one [] after h = absurd (omega arith)

@@ -1,5 +1,5 @@
 -- A typed row seen plain, as it would lie in a table.
-use Rattle.std.specs.Prelude.{ℕ, unsigned_abs}
+use Rattle.std.specs.Prelude.{unsigned_abs}
 use Rattle.rows.specs.declared.plain.ConstraintRow.{ConstraintRow}
 use Rattle.rows.specs.declared.plain.PointRow.{PointRow}
 use Rattle.rows.specs.declared.plain.HoldingRow.{HoldingRow}

@@ -1,5 +1,5 @@
 -- What is written of a posted hour is its statement.
-use Rattle.std.proofs.Common.{◌≡◌, ℕ, suc, ◌≤◌, true, cond, ◌&&◌, leb, List, [], ◌∷◌, ◌++◌, map, length, drop, replicate, ℤ, Some, None, Ok, Err, Result, sym, refl, ap, ◌∙◌, subst, arith}
+use Rattle.std.proofs.Common.{◌≡◌, ℕ, suc, ◌≤◌, true, cond, leb, List, [], ◌∷◌, ◌++◌, map, length, drop, replicate, ℤ, Ok, Err, Result, refl, ap, ◌∙◌, subst, arith}
 use Rattle.std.proofs.lemmas.List.{length-map, length-append}
 use Rattle.std.proofs.lemmas.Bool.{le-leb}
 use Rattle.refusals.specs.Numbers.{Told, refused_at}
@@ -13,10 +13,10 @@ use Rattle.ledger.specs.declared.lines.HourLine.{HourLine}
 use Rattle.ledger.specs.declared.lines.RollLine.{RollLine}
 use Rattle.ledger.specs.Lines.{clear_roll}
 use Rattle.ledger.specs.Figures.{Figures, started}
-use Rattle.ledger.specs.Posting.{Posting, amount_in, rent_of, dues_of, answer_of, post_test, PostAccepted, PostRefused}
+use Rattle.ledger.specs.Posting.{amount_in, rent_of, dues_of, answer_of, PostAccepted, PostRefused}
 use Rattle.ledger.specs.Ledger.{blank, with_hour}
 use Rattle.ledger.proofs.Passed.{passed}
-use Rattle.settlement.specs.Settled.{figures_told, first_hour_of, first_statement, unless, statement_in, within}
+use Rattle.settlement.specs.Settled.{figures_told, first_hour_of, first_statement, statement_in, within}
 
 -- amounts past the holdings are not told
 lines_front : (f : HoldingRow → ℤ) (i : ℕ) (hs : List HoldingRow) (more : List ℤ) → holding_lines i hs (map f hs ++ more) ≡ holding_lines i hs (map f hs)

@@ -1,5 +1,5 @@
 -- The rule of the table of pairs, proved at all of its entries by one test that antt computes.
-use Rattle.std.proofs.Common.{◌≡◌, ℕ, zero, suc, ◌+◌, ◌*◌, ◌/◌, ◌%◌, ◌<◌, Bool, true, false, ◌&&◌, T, eqb, List, [], ◌∷◌, length, get_or, codes, sym, refl, ap, ◌∙◌, arith, eqb→eq}
+use Rattle.std.proofs.Common.{◌≡◌, ℕ, zero, suc, ◌+◌, ◌*◌, ◌/◌, ◌%◌, ◌<◌, Bool, true, false, ◌&&◌, T, eqb, List, [], ◌∷◌, length, get_or, codes, sym, ap, ◌∙◌, arith, eqb→eq}
 use Rattle.statement.specs.Groups.{pair_of}
 
 both_left : (a b : Bool) → T (a && b) → T a

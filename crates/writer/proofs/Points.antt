@@ -1,11 +1,10 @@
 -- One more point with its row of shift factors.
-use Rattle.std.proofs.Common.{◌≡◌, ℕ, zero, suc, ◌+◌, ◌-◌, ◌*◌, ◌<◌, ◌≤◌, List, [], ◌∷◌, ◌++◌, length, get_or, take, drop, ℤ, sym, refl, ap, ◌∙◌, subst, mul-le-mul_right, suc-mul, arith, length-append, length-drop}
+use Rattle.std.proofs.Common.{◌≡◌, ℕ, zero, suc, ◌+◌, ◌-◌, ◌*◌, ◌<◌, ◌≤◌, List, [], ◌∷◌, ◌++◌, length, get_or, take, drop, ℤ, sym, ap, ◌∙◌, subst, mul-le-mul_right, suc-mul, arith, length-drop}
 use Rattle.std.proofs.lemmas.List.{drop-drop, length-take-le}
 use Rattle.rows.specs.declared.plain.PointRow.{PointRow}
 use Rattle.codec.specs.Bytes.{be2}
 use Rattle.codec.specs.Records.{Placed, encode_point, encode_factors, encode_placed}
 use Rattle.codec.proofs.Both.{placed_length}
-use Rattle.codec.proofs.Pairs.{encoded_length}
 use Rattle.records.specs.Frames.{framed}
 use Rattle.buffer.specs.Writes.{Wrote}
 use Rattle.buffer.proofs.Joins.{joined}

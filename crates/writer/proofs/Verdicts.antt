@@ -1,8 +1,8 @@
 -- What writing answers once the sizes and the entries passed.
-use Rattle.std.proofs.Common.{◌≡◌, ℕ, ◌<◌, ◌≤◌, Bool, true, false, cond, leb, List, length, nat_abs, None, Ok, Err, Option, Result, sym, refl, ap, ◌∙◌, arith, le-leb}
+use Rattle.std.proofs.Common.{◌≡◌, ℕ, ◌<◌, ◌≤◌, true, false, cond, leb, length, nat_abs, None, Ok, Err, ap, ◌∙◌, arith, le-leb}
 use borrow.Author.Differences.{ints}
 use borrow.Author.Tests.{lt-leb}
-use Rattle.refusals.specs.Numbers.{Told, refused_at}
+use Rattle.refusals.specs.Numbers.{refused_at}
 use Rattle.rows.specs.declared.day.Day.{Day}
 use Rattle.rows.specs.Plain.{plain_day}
 use Rattle.rows.specs.Ranges.{day_ok}

@@ -2,7 +2,7 @@ use Rattle.std.proofs.Common.{◌≡◌, ◌-◌, length, get_or, take, drop, sy
 use Rattle.std.proofs.lemmas.Int.{to_z-of_z}
 use Rattle.rows.specs.Ranges.{factor_ok}
 use Rattle.codec.specs.Bytes.{int2}
-use Rattle.codec.specs.Records.{every, factors_at}
+use Rattle.codec.specs.Records.{factors_at}
 use Rattle.codec.proofs.Pairs.{factors_step, factors_end, more_sound, all_sound}
 use Rattle.codec.proofs.factors.factors_sound.Goals as goal
 

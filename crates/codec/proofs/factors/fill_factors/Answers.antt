@@ -1,4 +1,4 @@
-use Rattle.std.proofs.Common.{◌≡◌, ◌+◌, ◌-◌, ◌<◌, ◌≤◌, true, false, leb, ◌∷◌, length, get_or, take, drop, sym, refl, ap, ◌∙◌, arith, w16, SFits, to_z, of_z, rules, le-leb}
+use Rattle.std.proofs.Common.{◌≡◌, ◌-◌, true, false, leb, ◌∷◌, length, get_or, take, drop, sym, refl, ap, ◌∙◌, arith, w16, SFits, to_z, of_z, rules, le-leb}
 use borrow.Author.Tests.{lt-leb}
 use Rattle.std.proofs.lemmas.Int.{to_z-of_z}
 use Rattle.codec.specs.Bytes.{int2}

@@ -1,4 +1,4 @@
-use Rattle.std.proofs.Common.{◌≡◌, ℕ, ◌+◌, ◌-◌, ◌*◌, Bool, true, false, ◌&&◌, List, length, take, drop, Ok, Err, Result, sym, refl, ap, ◌∙◌, rules, eqb-true}
+use Rattle.std.proofs.Common.{◌≡◌, ℕ, ◌+◌, ◌-◌, ◌*◌, Bool, true, false, ◌&&◌, List, length, take, drop, Ok, Result, sym, refl, ap, ◌∙◌, rules, eqb-true}
 use Rattle.std.proofs.lemmas.List.{take_rest}
 use Rattle.refusals.specs.Numbers.{Told}
 use Rattle.rows.specs.declared.plain.PointRow.{PointRow}

@@ -1,4 +1,4 @@
-use Rattle.std.proofs.Common.{◌≡◌, ℕ, List, ◌++◌, get_or, string_bytes, Result, ap, ◌∙◌}
+use Rattle.std.proofs.Common.{◌++◌, get_or, string_bytes, Result, ap, ◌∙◌}
 use Rattle.refusals.specs.Numbers.{Told}
 use Rattle.payoff.specs.View.{tables_of}
 use Rattle.pricing.specs.Calls.{Priced}

@@ -1,7 +1,5 @@
-use Rattle.std.proofs.Common.{◌≡◌, ℕ, List, length, vec_items, sym, ◌∙◌, subst}
-use Rattle.refusals.specs.Numbers.{told_by}
+use Rattle.std.proofs.Common.{length, vec_items, sym}
 use Rattle.month.specs.Months.{of_open}
-use Rattle.month_settlement.specs.Running.{Booking}
 use Rattle.month_settlement.proofs.Turns.{so_far_none, so_far_more, so_far_all, booking_as}
 use Rattle.month_settlement.proofs.posting_all.post_all.Goals as goal
 

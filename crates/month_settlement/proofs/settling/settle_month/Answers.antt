@@ -1,4 +1,4 @@
-use Rattle.std.proofs.Common.{◌≡◌, ◌≤◌, arith}
+use Rattle.std.proofs.Common.{◌≤◌, arith}
 use Rattle.month_settlement.specs.Books.{bytes_of}
 use Rattle.month_settlement.proofs.Ends.{settled_as, refused_as}
 use Rattle.month_settlement.proofs.Fronts.{front_length, front_again}

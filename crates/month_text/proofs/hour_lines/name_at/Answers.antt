@@ -1,4 +1,4 @@
-use Rattle.std.proofs.Common.{[], string_bytes, sym, ap, ◌∙◌}
+use Rattle.std.proofs.Common.{◌∙◌}
 use Rattle.month_text.proofs.Names.{name_there, name_none}
 use Rattle.month_text.proofs.hour_lines.name_at.Goals as goal
 

@@ -1,12 +1,12 @@
-use Rattle.std.proofs.Common.{◌≡◌, ℕ, ◌+◌, ◌*◌, ◌<◌, ◌≤◌, List, [], ◌++◌, length, drop, sym, ap, ◌∙◌, subst, append-nil, arith, rules}
+use Rattle.std.proofs.Common.{◌≡◌, ℕ, ◌*◌, List, [], ◌++◌, length, drop, sym, ap, ◌∙◌, subst, append-nil}
 use Rattle.std.proofs.lemmas.List.{length-map}
 use Rattle.codec.specs.Bytes.{Bytes}
 use Rattle.codec.specs.Records.{encode_constraint, encode_placed, encode_holding}
-use Rattle.format.specs.Hours.{Hour, Tables, records_of, points_of, factors_of}
+use Rattle.format.specs.Hours.{Tables, records_of, points_of, factors_of}
 use Rattle.records.specs.Frames.{frame_of}
 use Rattle.std.specs.List.{AllByRecursion as All}
 use Rattle.packages.specs.Filling.{IsPlaced}
-use Rattle.packages.proofs.Rowing.{spelling, spelling_records, spelling_rows, spelling_same, spelling_length, constraints_read, holdings_read, points_read, points_placed, passed, Laid, laid_by}
+use Rattle.packages.proofs.Rowing.{spelling, spelling_records, spelling_rows, spelling_same, spelling_length, constraints_read, holdings_read, points_read, points_placed, passed, laid_by}
 use Rattle.packages.proofs.reading.fill_tables.Goals as goal
 
 pub fill_rows-requires : goal.fill_rows-requires

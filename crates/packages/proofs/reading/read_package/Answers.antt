@@ -1,9 +1,8 @@
-use Rattle.std.proofs.Common.{◌≡◌, ℕ, ◌-◌, ◌*◌, ◌≤◌, true, false, ◌&&◌, leb, length, take, Ok, Err, Result, sym, ap, ◌∙◌, arith, rules, leb-true}
-use Rattle.refusals.specs.Numbers.{Told, refused_at}
+use Rattle.std.proofs.Common.{◌≡◌, ℕ, ◌-◌, ◌*◌, ◌≤◌, true, false, leb, length, take, Ok, Err, sym, ap, ◌∙◌, rules, leb-true}
+use Rattle.refusals.specs.Numbers.{refused_at}
 use Rattle.codec.specs.Bytes.{Bytes}
 use Rattle.codec.specs.Records.{answered}
 use Rattle.codec.proofs.Pairs.{and_left, and_right}
-use Rattle.format.specs.Hours.{Tables}
 use Rattle.format.specs.Reading.{reads_tables, reads_into}
 use Rattle.format.proofs.Ways.{read_writes}
 use Rattle.packages.specs.Counting.{Seen, seen_of, seen_in}

@@ -1,4 +1,4 @@
-use Rattle.std.proofs.Common.{◌≢◌, sym, arith, rules}
+use Rattle.std.proofs.Common.{◌≢◌, sym, rules}
 use Rattle.packages.proofs.Counted.{count_none}
 use Rattle.packages.proofs.rest.take_record.Goals as goal
 

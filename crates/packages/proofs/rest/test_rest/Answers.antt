@@ -1,10 +1,8 @@
-use Rattle.std.proofs.Common.{◌≡◌, ℕ, ◌+◌, length, Ok, Err, Result, sym, ap, ◌∙◌, subst, arith, rules}
+use Rattle.std.proofs.Common.{◌≡◌, ◌+◌, length, Ok, Err, Result, ap, ◌∙◌, rules}
 use Rattle.std.proofs.lemmas.Result.{err_from_is_err_and}
 use Rattle.refusals.specs.Numbers.{Told, told, told_by, refused_at}
 use Rattle.refusals.specs.declared.refusal.Refusal.{Refusal}
-use Rattle.records.specs.Frames.{frame_of, One, End, Bad}
-use Rattle.format.specs.Hours.{Hour}
-use Rattle.format.specs.Reading.{run}
+use Rattle.records.specs.Frames.{frame_of, One, End}
 use Rattle.packages.specs.declared.counts.Counts.{Counts}
 use Rattle.packages.specs.Counting.{count_takes}
 use Rattle.packages.proofs.Counted.{ended, broken, stepped, stopped}

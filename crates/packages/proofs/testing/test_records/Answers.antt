@@ -1,14 +1,12 @@
-use Rattle.std.proofs.Common.{◌≡◌, ℕ, ◌<◌, List, [], length, drop, Ok, Err, Result, sym, refl, ap, ◌∙◌, subst, arith, Fits, rules}
+use Rattle.std.proofs.Common.{◌≡◌, ◌<◌, [], length, drop, Ok, Err, Result, sym, refl, ap, ◌∙◌, rules}
 use Rattle.std.proofs.lemmas.Result.{err_from_is_err_and}
 use Rattle.refusals.specs.Numbers.{Told, told, told_by}
-use Rattle.refusals.specs.declared.refusal.Refusal.{Refusal}
 use Rattle.rows.specs.Plain.{plain_day}
 use Rattle.codec.specs.Bytes.{Bytes}
 use Rattle.codec.specs.Records.{decode_day, answered}
 use Rattle.records.specs.Frames.{frame_of, One}
 use Rattle.format.specs.Hours.{hour}
 use Rattle.format.specs.Reading.{run}
-use Rattle.packages.specs.declared.filled.Filled.{Filled}
 use Rattle.packages.specs.Counting.{counted, Seen, seen_in}
 use Rattle.packages.proofs.First.{left, few, told_good, told_refused}
 use Rattle.packages.proofs.testing.test_records.Goals as goal

@@ -1,5 +1,4 @@
 use Rattle.std.proofs.Common.{◌≡◌, ◌*◌, ◌≤◌}
-use Rattle.rows.specs.Plain.{plain_holding}
 use Rattle.payoff.specs.Prices.{sum_to, deration_term}
 use Rattle.payoff.specs.View.{tables_of}
 use Rattle.payoff.proofs.deration.deration_price.Given as goal

@@ -1,4 +1,4 @@
-use Rattle.std.proofs.Common.{◌≡◌, ap, ◌∙◌}
+use Rattle.std.proofs.Common.{ap, ◌∙◌}
 use Rattle.rows.specs.Plain.{plain_holding}
 use Rattle.payoff.specs.Tables.{Ends}
 use Rattle.payoff.specs.Prices.{floor_price_of}

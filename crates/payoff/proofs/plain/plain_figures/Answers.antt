@@ -1,7 +1,6 @@
 use Rattle.std.proofs.Common.{ap, ◌∙◌}
 use Rattle.rows.specs.Plain.{plain_holding}
 use Rattle.rows.proofs.Named.{plain_holding_ok}
-use Rattle.payoff.specs.Tables.{Ends}
 use Rattle.payoff.specs.Prices.{spread}
 use Rattle.payoff.specs.Targets.{target_by}
 use Rattle.payoff.specs.Instruments.{figures_at}

@@ -1,5 +1,5 @@
 use Rattle.std.proofs.Common.{◌≡◌, true, false, sym, rules}
-use Rattle.payoff.specs.Tables.{tables, sizes_ok, tables_test, bad_entry}
+use Rattle.payoff.specs.Tables.{tables, sizes_ok, tables_test}
 use Rattle.payoff.proofs.testing.tables_refusal.Goals as goal
 
 pub returns-then-points-gt256 : goal.returns-then-points-gt256

@@ -1,4 +1,4 @@
-use Rattle.std.proofs.Common.{◌≡◌, ℕ, ◌+◌, ◌-◌, ◌*◌, ◌/◌, ◌%◌, ◌<◌, ◌≤◌, Bool, true, false, T, eqb, List, ◌++◌, get_or, replicate, refl, ap, ◌∙◌, arith}
+use Rattle.std.proofs.Common.{◌≡◌, ℕ, ◌+◌, ◌-◌, ◌*◌, ◌/◌, ◌%◌, ◌<◌, ◌≤◌, Bool, T, eqb, List, ◌++◌, get_or, replicate, refl, ap, ◌∙◌, arith}
 use Rattle.rows.specs.declared.letters.Block.{Block}
 use Rattle.rows.specs.declared.letters.Block.TheVariants.{PeakWeekday, PeakWeekend, OffPeak}
 use Rattle.rows.specs.Letters.{block_letter}

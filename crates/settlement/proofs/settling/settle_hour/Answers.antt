@@ -1,4 +1,4 @@
-use Rattle.std.proofs.Common.{◌≡◌, ℕ, List, length, Result, sym, refl, ap, ◌∙◌}
+use Rattle.std.proofs.Common.{ℕ, List, length, Result, sym, refl, ap, ◌∙◌}
 use Rattle.refusals.specs.Numbers.{Told}
 use Rattle.rows.specs.Plain.{plain_day}
 use Rattle.format.specs.Hours.{tables}

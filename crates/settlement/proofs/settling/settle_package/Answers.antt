@@ -1,4 +1,4 @@
-use Rattle.std.proofs.Common.{◌≡◌, ℕ, List, length, Result, sym, ap, ◌∙◌}
+use Rattle.std.proofs.Common.{ℕ, List, length, Result, sym, ap, ◌∙◌}
 use Rattle.refusals.specs.Numbers.{Told, told}
 use Rattle.packages.specs.Counting.{seen_in}
 use Rattle.format.specs.Hours.{Tables}

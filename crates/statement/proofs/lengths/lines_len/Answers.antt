@@ -1,4 +1,4 @@
-use Rattle.std.proofs.Common.{◌≡◌, ◌+◌, ◌*◌, ◌≤◌, length, ap, ◌∙◌, arith}
+use Rattle.std.proofs.Common.{length, ap, ◌∙◌, arith}
 use Rattle.statement.proofs.Longs.{sizes_inv, lines_all, next_long}
 use Rattle.statement.proofs.lengths.lines_len.Goals as goal
 

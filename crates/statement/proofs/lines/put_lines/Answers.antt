@@ -1,4 +1,4 @@
-use Rattle.std.proofs.Common.{◌≡◌, ℕ, ◌+◌, ◌≤◌, List, length, get_or, ℤ, pos, sym, subst, arith, w64, SFits, rules}
+use Rattle.std.proofs.Common.{ℕ, ◌+◌, List, length, get_or, ℤ, pos, sym, subst, arith, w64, SFits, rules}
 use Rattle.std.proofs.lemmas.Int.{to_z-of_z}
 use Rattle.buffer.specs.Writes.{Wrote}
 use Rattle.statement.specs.Lines.{holding_line}

@@ -1,4 +1,4 @@
-use Rattle.std.proofs.Common.{◌≡◌, length, ℤ, ap, subst, arith, w64, SFits, to_z, of_z, rules}
+use Rattle.std.proofs.Common.{length, ℤ, ap, subst, arith, w64, SFits, rules}
 use Rattle.std.specs.Fmt.{signed_decimal}
 use Rattle.std.proofs.lemmas.Int.{to_z-of_z}
 use Rattle.buffer.specs.Writes.{Wrote}

@@ -1,6 +1,6 @@
-use Rattle.std.proofs.Common.{◌≡◌, ℕ, ◌+◌, ◌*◌, ◌<◌, ◌≤◌, Bool, true, false, cond, leb, List, ◌++◌, length, ℤ, Ok, Err, Result, sym, refl, ap, ◌∙◌, inl, inr, arith, length-append, rules, le-leb}
+use Rattle.std.proofs.Common.{◌≡◌, ℕ, ◌+◌, ◌*◌, ◌<◌, ◌≤◌, true, false, cond, leb, List, length, ℤ, Ok, Err, sym, refl, ap, ◌∙◌, inl, inr, arith, length-append, le-leb}
 use borrow.Author.Tests.{lt-leb}
-use Rattle.refusals.specs.Numbers.{Told, refused_at}
+use Rattle.refusals.specs.Numbers.{refused_at}
 use Rattle.rows.specs.declared.plain.HoldingRow.{HoldingRow}
 use Rattle.buffer.specs.Writes.{Wrote}
 use Rattle.buffer.proofs.Joins.{joined, whole}

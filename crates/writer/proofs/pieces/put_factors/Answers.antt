@@ -1,4 +1,4 @@
-use Rattle.std.proofs.Common.{◌≡◌, ◌≤◌, length, get_or, pos, ap, ◌∙◌, subst, w16, SFits, rules}
+use Rattle.std.proofs.Common.{◌≤◌, length, get_or, pos, ap, ◌∙◌, subst, w16, SFits, rules}
 use Rattle.std.proofs.lemmas.List.{take_all}
 use Rattle.std.proofs.lemmas.Int.{to_z-of_z}
 use Rattle.codec.specs.Bytes.{twos2}

@@ -1,4 +1,4 @@
-use Rattle.std.proofs.Common.{◌≡◌, ℕ, ◌+◌, ◌*◌, ◌<◌, ◌≤◌, List, ◌∷◌, ◌++◌, length, get_or, take, ℤ, pos, sym, ap, ◌∙◌, subst, arith, rules}
+use Rattle.std.proofs.Common.{◌≡◌, ℕ, ◌+◌, ◌*◌, ◌<◌, ◌≤◌, List, ◌∷◌, ◌++◌, length, get_or, pos, ap, subst, arith, rules}
 use Rattle.std.proofs.lemmas.List.{take_all, get_or_default}
 use Rattle.rows.specs.declared.plain.PointRow.{PointRow}
 use Rattle.codec.specs.Bytes.{be2}

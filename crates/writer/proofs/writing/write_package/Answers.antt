@@ -1,5 +1,4 @@
-use Rattle.std.proofs.Common.{◌≡◌, ℕ, ◌+◌, ◌*◌, ◌<◌, ◌≤◌, true, List, length, ℤ, None, Ok, Err, Result, sym, refl, ap, ◌∙◌, arith, rules}
-use Rattle.refusals.specs.Numbers.{Told, refused_at}
+use Rattle.std.proofs.Common.{◌≡◌, ℕ, true, List, length, ℤ, None, Ok, sym, ap, ◌∙◌, arith, rules}
 use Rattle.rows.specs.declared.plain.ConstraintRow.{ConstraintRow}
 use Rattle.rows.specs.declared.plain.HoldingRow.{HoldingRow}
 use Rattle.rows.specs.declared.plain.PointRow.{PointRow}
@@ -9,7 +8,7 @@ use Rattle.codec.specs.Records.{answered}
 use Rattle.buffer.proofs.Joins.{whole}
 use Rattle.format.specs.Hours.{Tables, tables, hour_of, package_of}
 use Rattle.format.specs.Reading.{reads_tables}
-use Rattle.format.specs.Writing.{sizes_ok, bad_entry, writes, written}
+use Rattle.format.specs.Writing.{sizes_ok, bad_entry, written}
 use Rattle.format.proofs.Ways.{sizes_inv, written_reads}
 use Rattle.writer.proofs.Whole.{tables_long, tables_small}
 use Rattle.writer.proofs.Verdicts.{day_ok_lem, writes_short, writes_good}

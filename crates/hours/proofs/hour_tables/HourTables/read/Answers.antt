@@ -1,8 +1,7 @@
-use Rattle.std.proofs.Common.{◌≡◌, length, sym, ap, ◌∙◌, rules}
+use Rattle.std.proofs.Common.{◌≡◌, length, sym, ◌∙◌, rules}
 use Rattle.refusals.specs.Numbers.{told}
 use Rattle.packages.specs.Counting.{seen_in}
 use Rattle.format.specs.Reading.{reads_into}
-use Rattle.hours.specs.Read.{hour_read}
 use Rattle.hours.proofs.Fronts.{read_in, refused_in_lem, stays_in, largest}
 use Rattle.hours.proofs.hour_tables.HourTables.read.Goals as goal
 

@@ -1,6 +1,5 @@
-use Rattle.std.proofs.Common.{◌≡◌, true, false, sym, ap, ◌∙◌}
+use Rattle.std.proofs.Common.{sym, ap, ◌∙◌}
 use Rattle.rows.specs.Plain.{plain_holding}
-use Rattle.payoff.specs.Tables.{ends_of}
 use Rattle.payoff.specs.Prices.{refundable}
 use Rattle.payoff.specs.View.{tables_of, payoff_of}
 use Rattle.payoff.specs.Laws.{found, refund_lost, refund_not, refund_is}

@@ -1,7 +1,6 @@
-use Rattle.std.proofs.Common.{◌≡◌, true, false, sym, ap, ◌∙◌}
+use Rattle.std.proofs.Common.{sym, ap, ◌∙◌}
 use Rattle.std.specs.Option.{option_map}
 use Rattle.rows.specs.Plain.{plain_holding}
-use Rattle.payoff.specs.Tables.{ends_of}
 use Rattle.payoff.specs.Prices.{refundable}
 use Rattle.payoff.specs.Payments.{rate_of}
 use Rattle.payoff.specs.View.{tables_of, plain_payment}

@@ -1,4 +1,4 @@
-use Rattle.std.proofs.Common.{◌≡◌, ℕ, List, length, ap, subst, arith, rules}
+use Rattle.std.proofs.Common.{ℕ, List, length, ap, subst, arith}
 use Rattle.codec.specs.Records.{encode_holding}
 use Rattle.buffer.specs.Writes.{Wrote}
 use Rattle.buffer.proofs.Joins.{joined}
