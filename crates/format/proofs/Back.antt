@@ -1,6 +1,6 @@
 -- The package of an hour in range is read as that hour.
 use Rattle.std.proofs.Common.{◌≡◌, ℕ, zero, suc, ◌+◌, ◌-◌, ◌*◌, ◌<◌, ◌≤◌, Bool, true, eqb, ltb, leb, List, [], ◌∷◌, ◌++◌, length, get_or, drop, Ok, Result, sym, refl, ap, ◌∙◌, append_assoc, append-nil, suc-mul, mul-le-mul, arith, lit<, length-append, lt-ltb, eq-eqb, le-leb}
-use Rattle.std.specs.List.{AllByRecursion as All}
+use Rattle.std.specs.List.{AllByRecursion}
 use Rattle.refusals.specs.Numbers.{Told}
 use Rattle.rows.specs.declared.plain.ConstraintRow.{ConstraintRow}
 use Rattle.rows.specs.declared.plain.DayRow.{DayRow}
@@ -43,7 +43,7 @@ take_holding p d cs ps hs x g lt =
 module _ {X : Type 0} (l : ℕ) (f : X → List ℕ) (ok : X → Type 0) (upto : List X → Hour) (limit : ℕ)
     (one : (p : ℕ) (done : List X) (x : X) → ok x → length done < limit → takes p (upto done) l (f x) ≡ Ok (upto (done ++ (x ∷ []))))
     (short : (x : X) → ok x → suc (length (f x)) < 65536) where
-  through : (xs done : List X) (k p : ℕ) (more : List ℕ) → All ok xs → length done + length xs ≤ limit → length xs ≤ k → run k p (upto done) (records_of l f xs ++ more) ≡ run (k - length xs) (p + length xs) (upto (done ++ xs)) more
+  through : (xs done : List X) (k p : ℕ) (more : List ℕ) → AllByRecursion ok xs → length done + length xs ≤ limit → length xs ≤ k → run k p (upto done) (records_of l f xs ++ more) ≡ run (k - length xs) (p + length xs) (upto (done ++ xs)) more
   unfolding run
   through [] done k p more a le lek =
       let n : k ≡ k - 0 = omega arith in
@@ -73,7 +73,7 @@ records_long : {X : Type 0} (l : ℕ) (f : X → List ℕ) (xs : List X) → len
 records_long l f [] = omega arith
 records_long l f (x ∷ xs) = let i = records_long l f xs in let a = length-append (f x) (records_of l f xs) in omega arith
 
-pub records_length : {X : Type 0} (l : ℕ) (f : X → List ℕ) (n : ℕ) (xs : List X) → All (λ x. length (f x) ≡ n) xs → length (records_of l f xs) ≡ length xs * (n + 3)
+pub records_length : {X : Type 0} (l : ℕ) (f : X → List ℕ) (n : ℕ) (xs : List X) → AllByRecursion (λ x. length (f x) ≡ n) xs → length (records_of l f xs) ≡ length xs * (n + 3)
 records_length l f n [] a = omega arith
 records_length l f n (x ∷ xs) a =
     let i = records_length l f n xs a.1 in
@@ -81,7 +81,7 @@ records_length l f n (x ∷ xs) a =
     let m : suc (length xs) * (n + 3) ≡ length xs * (n + 3) + (n + 3) = suc-mul (length xs) (n + 3) in
     omega (arith, a.0)
 
-sized_all : {X : Type 0} (f : X → List ℕ) (n : ℕ) (P : X → Type 0) → ((x : X) → P x → length (f x) ≡ n) → (xs : List X) → All P xs → All (λ x. length (f x) ≡ n) xs
+sized_all : {X : Type 0} (f : X → List ℕ) (n : ℕ) (P : X → Type 0) → ((x : X) → P x → length (f x) ≡ n) → (xs : List X) → AllByRecursion P xs → AllByRecursion (λ x. length (f x) ≡ n) xs
 sized_all f n P h [] a = tt
 sized_all f n P h (x ∷ xs) a = (h x a.0, sized_all f n P h xs a.1)
 

@@ -2,7 +2,7 @@
 use Rattle.std.proofs.Common.{◌≡◌, ℕ, zero, suc, ◌+◌, ◌-◌, ◌*◌, ◌≤◌, Bool, true, false, cond, ◌&&◌, eqb, leb, List, [], ◌∷◌, ◌++◌, length, get_or, drop, Ok, Err, Result, sym, refl, ap, ◌∙◌, subst, append_assoc, append-nil, arith, length-append, length-drop, eqb-true, leb-true}
 use Rattle.std.proofs.lemmas.List.{nil_from_length}
 use Rattle.std.proofs.ByRecursion.{All-push}
-use Rattle.std.specs.List.{AllByRecursion as All}
+use Rattle.std.specs.List.{AllByRecursion}
 use Rattle.refusals.specs.Numbers.{Told, refused_at}
 use Rattle.rows.specs.declared.plain.ConstraintRow.{ConstraintRow}
 use Rattle.rows.specs.declared.plain.DayRow.{DayRow}
@@ -27,9 +27,9 @@ HoldingGood h = (holding_ok h ≡ true) × HoldingFits h
 
 -- an hour whose rows are in range, with no more of them than an hour has
 pub record Good (h : Hour) : Type 0 where
-  pub constraints : All (λ c. constraint_ok c ≡ true) h.constraints
-  pub points : All (PointGood (length h.constraints)) h.points
-  pub holdings : All HoldingGood h.holdings
+  pub constraints : AllByRecursion (λ c. constraint_ok c ≡ true) h.constraints
+  pub points : AllByRecursion (PointGood (length h.constraints)) h.points
+  pub holdings : AllByRecursion HoldingGood h.holdings
   pub few_constraints : length h.constraints ≤ 32
   pub few_points : length h.points ≤ 256
   pub few_holdings : length h.holdings ≤ 1024
@@ -96,7 +96,7 @@ step_constraint p t l f u h g k =
     let n = long_push t.constraints x in
     let ok : Good (with_constraint t x) = record {
       constraints = All-push (λ c. constraint_ok c ≡ true) t.constraints x g.constraints d.2;
-      points = subst (λ ps. All (PointGood (length (t.constraints ++ (x ∷ [])))) ps) (sym np) tt;
+      points = subst (λ ps. AllByRecursion (PointGood (length (t.constraints ++ (x ∷ [])))) ps) (sym np) tt;
       holdings = g.holdings;
       few_constraints = omega arith;
       few_points = g.few_points;

@@ -1,7 +1,7 @@
 -- Reading and writing undo each other, by the tables.
 use Rattle.std.proofs.Common.{◌≡◌, ℕ, suc, ◌*◌, ◌≤◌, Bool, true, false, cond, ◌&&◌, eqb, leb, List, [], ◌∷◌, ◌++◌, length, take, drop, ℤ, Some, None, Ok, Err, Option, sym, refl, ap, ◌∙◌, subst, suc-mul, arith, length-append, length-drop, eq-eqb, eqb-true, le-leb, leb-true}
 use Rattle.std.specs.Option.{option_map}
-use Rattle.std.specs.List.{AllByRecursion as All}
+use Rattle.std.specs.List.{AllByRecursion}
 use Rattle.std.proofs.ByRecursion.{All-take, All-drop, All-append}
 use Rattle.std.proofs.lemmas.List.{length-take-le, take-append-drop, take_at, drop_at, length-map, nil_from_length}
 use Rattle.refusals.specs.Numbers.{refused_at}
@@ -27,7 +27,7 @@ mapped_none None e = refl
 mapped_none (Some n) e = some_not_none (suc n) e
 
 -- no entry is bad just where every one is good
-pub good_from_none : {X : Type 0} (p : X → Bool) (xs : List X) → first_bad p xs ≡ None → All (λ x. p x ≡ true) xs
+pub good_from_none : {X : Type 0} (p : X → Bool) (xs : List X) → first_bad p xs ≡ None → AllByRecursion (λ x. p x ≡ true) xs
 good_from_none p [] e = tt
 good_from_none p (x ∷ xs) e = let v = step (p x) refl e in (v.0, good_from_none p xs v.1)
   where
@@ -35,16 +35,16 @@ good_from_none p (x ∷ xs) e = let v = step (p x) refl e in (v.0, good_from_non
     step true q e = (q, mapped_none (first_bad p xs) e)
     step false q e = some_not_none 0 e
 
-pub none_from_good : {X : Type 0} (p : X → Bool) (xs : List X) → All (λ x. p x ≡ true) xs → first_bad p xs ≡ None
+pub none_from_good : {X : Type 0} (p : X → Bool) (xs : List X) → AllByRecursion (λ x. p x ≡ true) xs → first_bad p xs ≡ None
 none_from_good p [] a = refl
 none_from_good p (x ∷ xs) a =
     ap (λ b. cond b (option_map (λ k. suc k) (first_bad p xs)) (Some 0)) a.0 ∙ ap (option_map (λ k. suc k)) (none_from_good p xs a.1)
 
-every_from_all : {X : Type 0} (p : X → Bool) (xs : List X) → All (λ x. p x ≡ true) xs → every p xs ≡ true
+every_from_all : {X : Type 0} (p : X → Bool) (xs : List X) → AllByRecursion (λ x. p x ≡ true) xs → every p xs ≡ true
 every_from_all p [] a = refl
 every_from_all p (x ∷ xs) a = ap (λ b. b && every p xs) a.0 ∙ every_from_all p xs a.1
 
-all_from_every : {X : Type 0} (p : X → Bool) (xs : List X) → every p xs ≡ true → All (λ x. p x ≡ true) xs
+all_from_every : {X : Type 0} (p : X → Bool) (xs : List X) → every p xs ≡ true → AllByRecursion (λ x. p x ≡ true) xs
 all_from_every p [] e = tt
 all_from_every p (x ∷ xs) e = (and_left (p x) (every p xs) e, all_from_every p xs (and_right (p x) (every p xs) e))
 
@@ -60,7 +60,7 @@ placed_rows n (p ∷ ps) fs e =
     let d = length-drop n fs in
     ap (λ ys. take n fs ++ ys) (placed_rows n ps (drop n fs) (omega arith)) ∙ take-append-drop n fs
 
-pub placed_again : (n : ℕ) (xs : List Placed) → All (PointGood n) xs → placed n (points_of xs) (factors_of xs) ≡ xs
+pub placed_again : (n : ℕ) (xs : List Placed) → AllByRecursion (PointGood n) xs → placed n (points_of xs) (factors_of xs) ≡ xs
 placed_again n [] a = refl
 placed_again n (x ∷ xs) a =
     let t = take_at x.factors (factors_of xs) n a.0.1 in
@@ -68,7 +68,7 @@ placed_again n (x ∷ xs) a =
     let M : List ℤ → List ℤ → List Placed = λ ys zs. record { point = x.point; factors = ys } ∷ placed n (points_of xs) zs in
     ap (λ ys. M ys (drop n (x.factors ++ factors_of xs))) t ∙ ap (M x.factors) d ∙ ap (λ ys. x ∷ ys) (placed_again n xs a.1)
 
-pub rows_length : (n : ℕ) (xs : List Placed) → All (PointGood n) xs → length (factors_of xs) ≡ length xs * n
+pub rows_length : (n : ℕ) (xs : List Placed) → AllByRecursion (PointGood n) xs → length (factors_of xs) ≡ length xs * n
 rows_length n [] a = omega arith
 rows_length n (x ∷ xs) a =
     let i = rows_length n xs a.1 in
@@ -76,7 +76,7 @@ rows_length n (x ∷ xs) a =
     let m = suc-mul (length xs) n in
     omega (arith, a.0.1)
 
-placed_good : (n : ℕ) (ps : List PointRow) (fs : List ℤ) → length fs ≡ length ps * n → All (λ p. point_ok p ≡ true) ps → All (λ z. factor_ok z ≡ true) fs → All (PointGood n) (placed n ps fs)
+placed_good : (n : ℕ) (ps : List PointRow) (fs : List ℤ) → length fs ≡ length ps * n → AllByRecursion (λ p. point_ok p ≡ true) ps → AllByRecursion (λ z. factor_ok z ≡ true) fs → AllByRecursion (PointGood n) (placed n ps fs)
 placed_good n [] fs e a b = tt
 placed_good n (p ∷ ps) fs e a b =
     let m = suc-mul (length ps) n in
@@ -84,11 +84,11 @@ placed_good n (p ∷ ps) fs e a b =
     let w = every_from_all factor_ok (take n fs) (All-take (λ z. factor_ok z ≡ true) n fs b) in
     ((ap (λ c. c && every factor_ok (take n fs)) a.0 ∙ w, length-take-le n fs (omega arith)), placed_good n ps (drop n fs) (omega arith) a.1 (All-drop (λ z. factor_ok z ≡ true) n fs b))
 
-points_good : (n : ℕ) (xs : List Placed) → All (PointGood n) xs → All (λ p. point_ok p ≡ true) (points_of xs)
+points_good : (n : ℕ) (xs : List Placed) → AllByRecursion (PointGood n) xs → AllByRecursion (λ p. point_ok p ≡ true) (points_of xs)
 points_good n [] a = tt
 points_good n (x ∷ xs) a = (and_left (point_ok x.point) (every factor_ok x.factors) a.0.0, points_good n xs a.1)
 
-rows_good : (n : ℕ) (xs : List Placed) → All (PointGood n) xs → All (λ z. factor_ok z ≡ true) (factors_of xs)
+rows_good : (n : ℕ) (xs : List Placed) → AllByRecursion (PointGood n) xs → AllByRecursion (λ z. factor_ok z ≡ true) (factors_of xs)
 rows_good n [] a = tt
 rows_good n (x ∷ xs) a =
     All-append (λ z. factor_ok z ≡ true) x.factors (factors_of xs) (all_from_every factor_ok x.factors (and_right (point_ok x.point) (every factor_ok x.factors) a.0.0)) (rows_good n xs a.1)
@@ -118,7 +118,7 @@ tested_inv true None bs room cs e = go (leb (length bs) room) e
     go true e = (refl, refl, cc)
     go false e = refused _ cs e
 
-pub tables_good : (t : Tables) → sizes_ok t ≡ true → bad_entry t ≡ None → All HoldingFits t.holdings → Good (hour_of t)
+pub tables_good : (t : Tables) → sizes_ok t ≡ true → bad_entry t ≡ None → AllByRecursion HoldingFits t.holdings → Good (hour_of t)
 tables_good t s b f =
     let n = sizes_inv t s in
     let b1 = first_none (first_bad constraint_ok t.constraints) _ b in
@@ -134,7 +134,7 @@ tables_good t s b f =
       few_holdings = n.2;
     }
   where
-    both : (hs : List HoldingRow) → All (λ h. holding_ok h ≡ true) hs → All HoldingFits hs → All HoldingGood hs
+    both : (hs : List HoldingRow) → AllByRecursion (λ h. holding_ok h ≡ true) hs → AllByRecursion HoldingFits hs → AllByRecursion HoldingGood hs
     both [] a f = tt
     both (h ∷ hs) a f = ((a.0, f.0), both hs a.1 f.1)
 
@@ -144,7 +144,7 @@ tables_again t e =
     ∙ ap (λ fs. tables t.day t.constraints t.points fs t.holdings) (placed_rows (length t.constraints) t.points t.factors e)
 
 -- what is written of tables in range is read as those tables
-pub written_reads : (t : Tables) (room : ℕ) (bs : List ℕ) → day_ok t.day ≡ true → All HoldingFits t.holdings → writes t room ≡ Ok bs → reads_tables bs ≡ Ok t
+pub written_reads : (t : Tables) (room : ℕ) (bs : List ℕ) → day_ok t.day ≡ true → AllByRecursion HoldingFits t.holdings → writes t room ≡ Ok bs → reads_tables bs ≡ Ok t
 written_reads t room bs o f e =
     let v = tested_inv (sizes_ok t) (bad_entry t) (package_of (hour_of t)) room bs e in
     let g = tables_good t v.0 v.1 f in
@@ -172,7 +172,7 @@ entries_good h g =
     let d = none_from_good holding_ok h.holdings (holds h.holdings g.holdings) in
     rw (a, b, c, d)
   where
-    holds : (hs : List HoldingRow) → All HoldingGood hs → All (λ x. holding_ok x ≡ true) hs
+    holds : (hs : List HoldingRow) → AllByRecursion HoldingGood hs → AllByRecursion (λ x. holding_ok x ≡ true) hs
     holds [] a = tt
     holds (x ∷ xs) a = (a.0.0, holds xs a.1)
 

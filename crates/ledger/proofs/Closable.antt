@@ -2,7 +2,7 @@
 use Rattle.std.proofs.Common.{◌≡◌, ℕ, suc, ◌<◌, ◌≤◌, Bool, true, false, cond, ◌&&◌, eqb, ltb, leb, List, [], ◌∷◌, length, get_or, ℤ, pos, negsuc, Some, None, Option, refl, ap, arith}
 use lib.Signed.{le_z}
 use Rattle.std.specs.Option.{option_map}
-use Rattle.std.specs.List.{AllByRecursion as All}
+use Rattle.std.specs.List.{AllByRecursion}
 use Rattle.std.proofs.ByRecursion.{All-get_or}
 use Rattle.std.proofs.lemmas.Bool.{and_parts, leb-true}
 use Rattle.std.proofs.lemmas.Bool.Decides.{nat_tests}
@@ -15,7 +15,7 @@ use Rattle.ledger.specs.Calls.{load_ok, loads_test, load_total, close_test}
 use Rattle.ledger.proofs.Passed.{cond_none, none_cond, both_none, mapped_none}
 
 -- what holds of each entry that passes a test holds of a table of such entries
-pub each_of : {X : Type 0} (P : X → Type 0) (ok : X → Bool) → ((x : X) → ok x ≡ true → P x) → (xs : List X) → every ok xs ≡ true → All P xs
+pub each_of : {X : Type 0} (P : X → Type 0) (ok : X → Bool) → ((x : X) → ok x ≡ true → P x) → (xs : List X) → every ok xs ≡ true → AllByRecursion P xs
 each_of P ok one [] e = tt
 each_of P ok one (x ∷ xs) e =
     let a = and_parts (ok x) (every ok xs) e in

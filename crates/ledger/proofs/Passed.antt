@@ -1,7 +1,7 @@
 -- What an accepted post has passed.
 use Rattle.std.proofs.Common.{◌≡◌, ℕ, zero, suc, ◌+◌, ◌<◌, ◌≤◌, Bool, true, false, cond, ◌&&◌, eqb, ltb, leb, List, length, get_or, take, is_some, Some, None, Option, sym, refl, ap, ◌∙◌, add-zero, arith}
 use Rattle.std.specs.Option.{option_map}
-use Rattle.std.specs.List.{AllByRecursion as All}
+use Rattle.std.specs.List.{AllByRecursion}
 use Rattle.std.proofs.ByRecursion.{All-from_get_or, All-map}
 use Rattle.std.proofs.lemmas.Bool.{and_parts, leb-true, eqb-true, ltb-true}
 use Rattle.refusals.specs.Numbers.{Told, refused_at}
@@ -65,7 +65,7 @@ pub record Passed (f : Figures) (roll : List RollLine) (p : Posting) : Type 0 wh
   pub room : length p.holdings ≤ length p.amounts
   pub lines : length p.sheet ≡ length roll
   pub holdings : (i : ℕ) → i < length p.holdings → Held (length roll) p i (get_or p.holdings i no_holding)
-  pub owners : All (λ d. d.owner < length roll) (dues_of p)
+  pub owners : AllByRecursion (λ d. d.owner < length roll) (dues_of p)
   pub credit : credits (dues_of p) ≤ limit
   pub charge : charges (dues_of p) ≤ limit
   pub balance : f.balance + left (rent_of p) (dues_of p) ≤ limit
@@ -79,7 +79,7 @@ all_held owners p e i h =
     let z : 0 + i ≡ i = omega arith in
     held owners p i (get_or p.holdings i no_holding) (sym (ap test z) ∙ each_none test 0 (length p.holdings) e i h)
 
-pub owners_on : (owners : ℕ) (p : Posting) → ((i : ℕ) → i < length p.holdings → Held owners p i (get_or p.holdings i no_holding)) → All (λ d. d.owner < owners) (dues_of p)
+pub owners_on : (owners : ℕ) (p : Posting) → ((i : ℕ) → i < length p.holdings → Held owners p i (get_or p.holdings i no_holding)) → AllByRecursion (λ d. d.owner < owners) (dues_of p)
 owners_on owners p each =
     All-map (λ (d : Due). d.owner < owners) (due_of p) p.holdings (All-from_get_or (λ (h : HoldingRow). h.owner < owners) p.holdings no_holding (λ i h. (each i h).owner))
 

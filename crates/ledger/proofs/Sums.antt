@@ -1,7 +1,7 @@
 -- Sums over owners.
 use Rattle.std.proofs.Common.{◌≡◌, ℕ, zero, suc, ◌+◌, ◌*◌, ◌<◌, ◌≤◌, cond, eqb, List, [], ◌∷◌, sum_by, refl, ap, ⊎_elim, arith}
 use native.Mathlib.Nat.{div-zero, mul-div_cancel_left}
-use Rattle.std.specs.List.{AllByRecursion as All}
+use Rattle.std.specs.List.{AllByRecursion}
 use Rattle.std.proofs.lemmas.List.Sums.{sum_by-cons}
 use Rattle.std.proofs.lemmas.Bool.{eq-eqb, ne_eqb, cases_eq}
 use Rattle.sharing.specs.Shares.{up_to, share_of}
@@ -34,7 +34,7 @@ one_owner j c (suc n) h =
     ⊎_elim (λ (e : j ≡ n). omega (arith, one_none j c n (omega arith), ap (λ b. cond b c 0) (eq-eqb j n e))) (λ (d : j ≡ n → ⊥). omega (arith, one_owner j c n (omega arith), ap (λ b. cond b c 0) (ne_eqb j n d))) (cases_eq j n)
 
 -- what each owner's holdings come to is what all come to
-pub own_sums : (f : Due → ℕ) (ds : List Due) (n : ℕ) → All (λ d. d.owner < n) ds → up_to (own_sum f ds) n ≡ sum_by f ds
+pub own_sums : (f : Due → ℕ) (ds : List Due) (n : ℕ) → AllByRecursion (λ d. d.owner < n) ds → up_to (own_sum f ds) n ≡ sum_by f ds
 own_sums f [] n a = up_to_none n
 own_sums f (d ∷ ds) n a =
     let own = λ (o : ℕ). cond (eqb d.owner o) (f d) 0 in

@@ -1,11 +1,11 @@
 ghost use Rattle.std.specs.Prelude.{◌≡◌, ◌+◌, ◌<◌, ◌≤◌, ◌++◌, map, length, drop, MatchResult};
-ghost use Rattle.std.specs.List.{AllByRecursion as All};
+ghost use Rattle.std.specs.List.{AllByRecursion};
 ghost use Rattle.refusals.specs.Numbers.{told};
 ghost use Rattle.rows.specs.Plain.{plain_day};
 ghost use Rattle.payoff.specs.Tables.{tables};
 ghost use Rattle.sharing.specs.Shares.{limit};
 ghost use Rattle.ledger.specs.Lines.{lines_of};
-ghost use Rattle.ledger.specs.Hour.{credits as allCredits, charges as allCharges};
+ghost use Rattle.ledger.specs.Hour.{credits as all_credits, charges as all_charges};
 ghost use Rattle.ledger.specs.Posting.{posting_of, PostAccepted, PostRefused};
 ghost use Rattle.month.specs.Months.{of_open};
 ghost use Rattle.month.specs.Hours.{RoomyRoll};
@@ -29,11 +29,11 @@ fn write_hour(
     sheet: &mut [HourLine],
     amounts: &mut [i64],
 )
-    requires owners { All (λ d. d.owner < length sheet.old) dues.now }
+    requires owners { AllByRecursion (λ d. d.owner < length sheet.old) dues.now }
     requires lines { (length sheet.old ≡ length roll.old) × (length dues.now ≤ length amounts.old) }
-    requires sums { (sums.now.credits ≡ allCredits dues.now) × (sums.now.short ≤ sums.now.credits) }
-    requires small { (sums.now.credits ≤ limit) × (allCharges dues.now ≤ limit) }
-    requires roll { All RoomyRoll roll.old }
+    requires sums { (sums.now.credits ≡ all_credits dues.now) × (sums.now.short ≤ sums.now.credits) }
+    requires small { (sums.now.credits ≤ limit) × (all_charges dues.now ≤ limit) }
+    requires roll { AllByRecursion RoomyRoll roll.old }
     ensures amounts { amounts.new ≡ map (λ d. d.amount.value) dues.now ++ drop (length dues.now) amounts.old }
     ensures sheet { sheet.new ≡ lines_of (length roll.old) (sheet_line sums.now.short dues.now) }
     ensures roll { roll.new ≡ lines_of (length roll.old) (rolled_line roll.old sums.now.short dues.now) }

@@ -3,7 +3,7 @@ use Rattle.std.proofs.Common.{◌≡◌, ℕ, zero, suc, ◌+◌, ◌-◌, ◌*�
 use borrow.Rule.Slice.PartMut.{put_mid}
 use Rattle.std.proofs.lemmas.List.{take_more_set, map-append, drop_all, take_rest, length-take-le}
 use Rattle.std.proofs.lemmas.Slice.{take-put_mid}
-use Rattle.std.specs.List.{AllByRecursion as All}
+use Rattle.std.specs.List.{AllByRecursion}
 use Rattle.records.specs.Frames.{One, frame_of, framed}
 use Rattle.records.proofs.Cuts.{frame_back}
 use Rattle.codec.specs.Records.{Placed, encode_placed, factors_at, filled}
@@ -18,7 +18,7 @@ pub record At {K : Type 0} (ks : List K) (i : ℕ) (P : K → Type 0) : Type 0 w
   pub upto : take (i + 1) ks ≡ take i ks ++ (it ∷ [])
   pub from : drop i ks ≡ it ∷ drop (i + 1) ks
 
-pub at : {K : Type 0} (P : K → Type 0) (ks : List K) (i : ℕ) → i < length ks → All P ks → At ks i P
+pub at : {K : Type 0} (P : K → Type 0) (ks : List K) (i : ℕ) → i < length ks → AllByRecursion P ks → At ks i P
 at P [] i h a = absurd (omega arith)
 at P (k ∷ ks) zero h a = record { it = k; holds = a.0; upto = refl; from = refl }
 at P (k ∷ ks) (suc i) h a =
@@ -38,7 +38,7 @@ next_frame P l f ks i bs more r short e =
     ∙ frame_back l (f r.it) (records_of l f (drop (i + 1) ks) ++ more) (omega arith)
 
 -- a table that is filled row by row from the records
-module _ {X : Type 0} (row : List ℕ → Option X) (l : ℕ) (ks : List (Spelt X)) (more : List ℕ) (a : All (IsRead row) ks) (bs : List ℕ) (i : ℕ) (lt : i < length ks) (left : bs ≡ records l (drop i ks) ++ more) where
+module _ {X : Type 0} (row : List ℕ → Option X) (l : ℕ) (ks : List (Spelt X)) (more : List ℕ) (a : AllByRecursion (IsRead row) ks) (bs : List ℕ) (i : ℕ) (lt : i < length ks) (left : bs ≡ records l (drop i ks) ++ more) where
   here : At ks i (IsRead row)
   here = at (IsRead row) ks i lt a
 
@@ -73,7 +73,7 @@ factors_push : (xs : List Placed) (x : Placed) → factors_of (xs ++ (x ∷ []))
 factors_push [] x = append-nil x.factors
 factors_push (y ∷ ys) x = ap (λ zs. y.factors ++ zs) (factors_push ys x) ∙ sym (append_assoc y.factors (factors_of ys) x.factors)
 
-module _ (n : ℕ) (xs : List Placed) (more : List ℕ) (a : All (IsPlaced n) xs) (bs : List ℕ) (i : ℕ) (lt : i < length xs) (left : bs ≡ records_of 80 encode_placed (drop i xs) ++ more) where
+module _ (n : ℕ) (xs : List Placed) (more : List ℕ) (a : AllByRecursion (IsPlaced n) xs) (bs : List ℕ) (i : ℕ) (lt : i < length xs) (left : bs ≡ records_of 80 encode_placed (drop i xs) ++ more) where
   there : At xs i (IsPlaced n)
   there = at (IsPlaced n) xs i lt a
 

@@ -1,6 +1,6 @@
 -- The records of an hour, with the rows that are read of them.
 use Rattle.std.proofs.Common.{◌≡◌, ℕ, suc, ◌<◌, ◌≤◌, true, cond, leb, List, [], ◌∷◌, ◌++◌, map, length, drop, Some, None, Ok, Option, sym, refl, ap, ◌∙◌, arith, lit<, Bor, le-leb}
-use Rattle.std.specs.List.{AllByRecursion as All}
+use Rattle.std.specs.List.{AllByRecursion}
 use Rattle.rows.specs.declared.plain.ConstraintRow.{ConstraintRow}
 use Rattle.rows.specs.declared.plain.HoldingRow.{HoldingRow}
 use Rattle.rows.specs.declared.plain.PointRow.{PointRow}
@@ -38,19 +38,19 @@ pub spelling_length : {K X : Type 0} (f : K → List ℕ) (v : K → X) (ks : Li
 spelling_length f v [] = refl
 spelling_length f v (k ∷ ks) = ap suc (spelling_length f v ks)
 
-spelling_read : {K X : Type 0} (f : K → List ℕ) (v : K → X) (row : List ℕ → Option X) (P : K → Type 0) → ((k : K) → P k → (length (f k) < 65535) × (row (f k) ≡ Some (v k))) → (ks : List K) → All P ks → All (IsRead row) (spelling f v ks)
+spelling_read : {K X : Type 0} (f : K → List ℕ) (v : K → X) (row : List ℕ → Option X) (P : K → Type 0) → ((k : K) → P k → (length (f k) < 65535) × (row (f k) ≡ Some (v k))) → (ks : List K) → AllByRecursion P ks → AllByRecursion (IsRead row) (spelling f v ks)
 spelling_read f v row P h [] a = tt
 spelling_read f v row P h (k ∷ ks) a = (h k a.0, spelling_read f v row P h ks a.1)
 
-pub constraints_read : (cs : List ConstraintRow) → All (λ c. constraint_ok c ≡ true) cs → All (IsRead (λ bs. sized 6 constraint_at bs)) (spelling encode_constraint (λ c. c) cs)
+pub constraints_read : (cs : List ConstraintRow) → AllByRecursion (λ c. constraint_ok c ≡ true) cs → AllByRecursion (IsRead (λ bs. sized 6 constraint_at bs)) (spelling encode_constraint (λ c. c) cs)
 constraints_read cs a =
     spelling_read encode_constraint (λ c. c) (λ bs. sized 6 constraint_at bs) (λ c. constraint_ok c ≡ true) (λ c o. (lit< tt, ap (λ (x : ConstraintRow). Some x) (constraint_back c o))) cs a
 
-pub holdings_read : (hs : List HoldingRow) → All HoldingGood hs → All (IsRead (λ bs. sized 20 holding_at bs)) (spelling encode_holding (λ h. h) hs)
+pub holdings_read : (hs : List HoldingRow) → AllByRecursion HoldingGood hs → AllByRecursion (IsRead (λ bs. sized 20 holding_at bs)) (spelling encode_holding (λ h. h) hs)
 holdings_read hs a =
     spelling_read encode_holding (λ h. h) (λ bs. sized 20 holding_at bs) HoldingGood (λ h o. (lit< tt, ap (λ (x : HoldingRow). Some x) (holding_back h o.1 o.0))) hs a
 
-pub points_read : (n : ℕ) (xs : List Placed) → n ≤ 32 → All (PointGood n) xs → All (IsRead (λ bs. cond (leb 13 (length bs)) (Some (point_at bs)) None)) (spelling encode_placed (λ x. x.point) xs)
+pub points_read : (n : ℕ) (xs : List Placed) → n ≤ 32 → AllByRecursion (PointGood n) xs → AllByRecursion (IsRead (λ bs. cond (leb 13 (length bs)) (Some (point_at bs)) None)) (spelling encode_placed (λ x. x.point) xs)
 points_read n xs few a =
     spelling_read encode_placed (λ x. x.point) (λ bs. cond (leb 13 (length bs)) (Some (point_at bs)) None) (PointGood n) (λ x o. (omega (arith, placed_length x, o.1), one x o.0)) xs a
   where
@@ -60,7 +60,7 @@ points_read n xs few a =
         let p = point_back x.point (encode_factors x.factors) (and_left (point_ok x.point) (every factor_ok x.factors) o) in
         ap (λ c. cond c (Some (point_at (encode_placed x))) None) b ∙ ap (λ (y : PointRow). Some y) p
 
-pub points_placed : (n : ℕ) (xs : List Placed) → n ≤ 32 → All (PointGood n) xs → All (IsPlaced n) xs
+pub points_placed : (n : ℕ) (xs : List Placed) → n ≤ 32 → AllByRecursion (PointGood n) xs → AllByRecursion (IsPlaced n) xs
 points_placed n [] few a = tt
 points_placed n (x ∷ xs) few a = ((omega (arith, placed_length x, a.0.1), placed_back x a.0.0, a.0.1), points_placed n xs few a.1)
 

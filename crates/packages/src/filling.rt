@@ -1,5 +1,5 @@
 ghost use Rattle.std.specs.Prelude.{◌≡◌, ℕ, ◌*◌, List, ◌++◌, length};
-ghost use Rattle.std.specs.List.{AllByRecursion as All};
+ghost use Rattle.std.specs.List.{AllByRecursion};
 ghost use Rattle.codec.specs.Records.{Placed, encode_placed};
 ghost use Rattle.format.specs.Hours.{records_of, factors_of};
 ghost use Rattle.packages.specs.Filling.{Spelt, IsRead, IsPlaced, NextFields, records, rows_of};
@@ -20,7 +20,7 @@ pub(crate) fn next_fields<'a>(reader: &mut Reader<'a>) -> Option<&'a [u8]>
 
 /// Fills a table with the rows of as many records from the reader's place on.
 pub(crate) fn fill<R: Row>(reader: &mut Reader, table: &mut [R])
-    ensures { (l : ℕ) (ks : List (Spelt R)) (more : List ℕ) → reader.old.rest.now ≡ records l ks ++ more → length ks ≡ length table.old → All (IsRead R.row_of) ks → (table.new ≡ rows_of ks) × (reader.new.rest.now ≡ more) }
+    ensures { (l : ℕ) (ks : List (Spelt R)) (more : List ℕ) → reader.old.rest.now ≡ records l ks ++ more → length ks ≡ length table.old → AllByRecursion (IsRead R.row_of) ks → (table.new ≡ rows_of ks) × (reader.new.rest.now ≡ more) }
 {
     for cell in table.iter_mut() {
         let Some(fields) = next_fields(reader) else {
@@ -36,7 +36,7 @@ pub(crate) fn fill<R: Row>(reader: &mut Reader, table: &mut [R])
 /// Fills a table with the shift factors of so many P records from the reader's place on, a row for each.
 pub(crate) fn fill_rows(reader: &mut Reader, points: usize, columns: usize, table: &mut [i16])
     requires { length table.old ≡ points * columns }
-    ensures { (xs : List Placed) (more : List ℕ) → reader.old.rest.now ≡ records_of 80 encode_placed xs ++ more → length xs ≡ points → All (IsPlaced columns) xs → (table.new ≡ factors_of xs) × (reader.new.rest.now ≡ more) }
+    ensures { (xs : List Placed) (more : List ℕ) → reader.old.rest.now ≡ records_of 80 encode_placed xs ++ more → length xs ≡ points → AllByRecursion (IsPlaced columns) xs → (table.new ≡ factors_of xs) × (reader.new.rest.now ≡ more) }
 {
     let mut at = 0;
     for _i in 0..points {

@@ -1,6 +1,6 @@
 -- The steps of the loop that shares.
 use Rattle.std.proofs.Common.{◌≡◌, ℕ, zero, suc, ◌+◌, ◌-◌, ◌*◌, ◌/◌, ◌<◌, ◌≤◌, List, [], ◌∷◌, ◌++◌, length, get_or, take, drop, set, refl, ap, ◌∙◌, subst, arith}
-use Rattle.std.specs.List.{AllByRecursion as All}
+use Rattle.std.specs.List.{AllByRecursion}
 use Rattle.std.proofs.lemmas.List.{drop_more, take_more_set, drop-set-lt, append_assoc, take_all, drop_all, append-nil}
 use Rattle.sharing.specs.Shares.{up_to, share_of, weights_of}
 use Rattle.sharing.proofs.Parts.{up_to_cons}
@@ -10,8 +10,8 @@ abbrev pub share_after : (s v b w : ℕ) → ℕ
 share_after s v b w = s * (b + w) / v - s * b / v
 
 module _ {L : Type 0} where
-  pub all_step : (P : L → Type 0) (xs : List L) (i : ℕ) (d : L) → i < length xs → All P (drop i xs) → P (get_or xs i d) × All P (drop (i + 1) xs)
-  all_step P xs i d h a = let F : List L → Type 0 = λ l. All P l in subst F (drop_more xs i d h) a
+  pub all_step : (P : L → Type 0) (xs : List L) (i : ℕ) (d : L) → i < length xs → AllByRecursion P (drop i xs) → P (get_or xs i d) × AllByRecursion P (drop (i + 1) xs)
+  all_step P xs i d h a = let F : List L → Type 0 = λ l. AllByRecursion P l in subst F (drop_more xs i d h) a
 
   pub drop_after : (xs : List L) (i : ℕ) (y : L) → drop (i + 1) (set xs i y) ≡ drop (i + 1) xs
   drop_after xs i y = drop-set-lt (i + 1) xs i y (omega arith)

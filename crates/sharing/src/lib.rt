@@ -3,7 +3,7 @@
 #![tactic(auto)]
 
 ghost use Rattle.std.specs.Prelude.{◌≡◌, ℕ, ◌+◌, ◌-◌, ◌*◌, ◌/◌, ◌^◌, ◌<◌, ◌≤◌, length, ℤ, pos, ◌+ℤ◌, ◌<ℤ◌, sum_by, slice_index_or};
-ghost use Rattle.std.specs.List.{AllByRecursion as All};
+ghost use Rattle.std.specs.List.{AllByRecursion};
 ghost use Rattle.sharing.specs.Shares.{limit, share_of, weights_of, Fair};
 
 /// A line that takes a share of a sum by its weight.
@@ -59,7 +59,7 @@ pub fn share<L: Line>(lines: &mut [L], sum: u64, total: u64)
     requires small { (sum ≤ limit) × (total ≤ limit) }
     requires zero { total ≡ 0 → sum ≡ 0 }
     requires weighed { sum_by L.weight lines.old ≡ total }
-    requires room { All (λ x. (L.had x +ℤ pos sum) <ℤ pos (2 ^ 63)) lines.old }
+    requires room { AllByRecursion (λ x. (L.had x +ℤ pos sum) <ℤ pos (2 ^ 63)) lines.old }
     ensures shared { (none : L) (i : ℕ) → i < length lines.old → slice_index_or lines.new i none ≡ L.given (slice_index_or lines.old i none) (share_of sum total (weights_of L.weight lines.old none) i) }
     ensures kept { length lines.new ≡ length lines.old }
     ensures fair { (none : L) → Fair sum total (weights_of L.weight lines.old none) (length lines.old) }

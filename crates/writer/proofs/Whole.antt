@@ -1,7 +1,7 @@
 -- A package by its parts.
 use Rattle.std.proofs.Common.{◌≡◌, ℕ, suc, ◌+◌, ◌-◌, ◌*◌, ◌≤◌, true, List, [], ◌∷◌, ◌++◌, length, take, drop, ℤ, refl, ap, ◌∙◌, suc-mul, mul-le-mul, arith, length-append, length-drop}
 use Rattle.std.proofs.lemmas.List.{length-take-le}
-use Rattle.std.specs.List.{AllByRecursion as All}
+use Rattle.std.specs.List.{AllByRecursion}
 use Rattle.rows.specs.declared.plain.PointRow.{PointRow}
 use Rattle.codec.proofs.Both.{placed_length}
 use Rattle.codec.specs.Bytes.{be4}
@@ -36,11 +36,11 @@ package_long h =
     let b = length-append (records_of 80 encode_placed h.points) (records_of 72 encode_holding h.holdings) in
     omega arith
 
-all_of : {X : Type 0} (P : X → Type 0) → ((x : X) → P x) → (xs : List X) → All P xs
+all_of : {X : Type 0} (P : X → Type 0) → ((x : X) → P x) → (xs : List X) → AllByRecursion P xs
 all_of P h [] = tt
 all_of P h (x ∷ xs) = (h x, all_of P h xs)
 
-placed_sized : (n : ℕ) (ps : List PointRow) (fs : List ℤ) → length fs ≡ length ps * n → All (λ x. length (encode_placed x) ≡ 13 + 2 * n) (placed n ps fs)
+placed_sized : (n : ℕ) (ps : List PointRow) (fs : List ℤ) → length fs ≡ length ps * n → AllByRecursion (λ x. length (encode_placed x) ≡ 13 + 2 * n) (placed n ps fs)
 placed_sized n [] fs e = tt
 placed_sized n (p ∷ ps) fs e =
     let m = suc-mul (length ps) n in

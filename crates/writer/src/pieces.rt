@@ -1,6 +1,6 @@
 //! Records of one kind, one after the other.
 ghost use Rattle.std.specs.Prelude.{◌≡◌, ℕ, ◌+◌, ◌*◌, ◌≤◌, ◌∷◌, ◌++◌, length};
-ghost use Rattle.std.specs.List.{AllByRecursion as All};
+ghost use Rattle.std.specs.List.{AllByRecursion};
 ghost use Rattle.codec.specs.Bytes.{be2};
 ghost use Rattle.codec.specs.Records.{encode_factors, encode_placed, encode_point};
 ghost use Rattle.buffer.specs.Writes.{Wrote};
@@ -15,7 +15,7 @@ use rows::PointRow;
 pub(crate) fn put_records<R: Recorded>(rows: &[R], out: &mut [u8], start: usize) -> usize
     requires { start + length (records_of R.letter R.fields rows.now) ≤ length out.old }
     ensures wrote { Wrote out.old start (records_of R.letter R.fields rows.now) result out.new }
-    ensures fits { All R.fits rows.now }
+    ensures fits { AllByRecursion R.fits rows.now }
 {
     let mut at = start;
     for row in rows {

@@ -1,5 +1,5 @@
 ghost use Rattle.std.specs.Prelude.{◌≡◌, ◌+◌, ◌*◌, ◌≤◌, true, ◌∷◌, ◌++◌, length, take, IfOk, Ok};
-ghost use Rattle.std.specs.List.{AllByRecursion as All};
+ghost use Rattle.std.specs.List.{AllByRecursion};
 ghost use Rattle.refusals.specs.Numbers.{told_by};
 ghost use Rattle.rows.specs.Plain.{plain_day};
 ghost use Rattle.codec.specs.Bytes.{be4};
@@ -43,7 +43,7 @@ fn put_package(
     requires small { long ≤ 44340 }
     requires room { long ≤ length out.old }
     ensures wrote { Wrote out.old 0 (package_of (hour_of (tables (plain_day day.now) constraints.now points.now factors.now holdings.now))) result out.new }
-    ensures fits { All HoldingFits holdings.now }
+    ensures fits { AllByRecursion HoldingFits holdings.now }
 {
     let a = put(out, 0, &package_head(day, long as u32 - 4));
     let b = put_records(constraints, out, a);

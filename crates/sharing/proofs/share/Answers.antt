@@ -1,5 +1,5 @@
 use Rattle.std.proofs.Common.{◌≡◌, ◌+◌, ◌^◌, ◌<◌, ◌++◌, length, get_or, take, drop, set, pos, ◌+ℤ◌, ◌<ℤ◌, sym, refl, ap, ◌∙◌, subst, arith}
-use Rattle.std.specs.List.{AllByRecursion as All}
+use Rattle.std.specs.List.{AllByRecursion}
 use Rattle.std.proofs.lemmas.List.Sums.{sum_by-drop_more}
 use Rattle.sharing.specs.Shares.{weights_of}
 use Rattle.sharing.proofs.Laws.{fair}
@@ -40,7 +40,7 @@ loop-line-preserved g c =
     let r = all_step (λ x. (m.had x +ℤ pos s) <ℤ pos (2 ^ 63)) xs i d h c.loop-line.invariant.2 in (
       ap (λ k. take (i + 1) (set xs i y) ++ sharedFrom m.weight m.given s v (b + k) (drop (i + 1) (set xs i y))) w ∙ shared-more m.weight m.given s v b xs i d y h e ∙ c.loop-line.invariant.0,
       rw (drop_after xs i y) (omega (arith, w, sum_by-drop_more m.weight xs i d h, c.loop-line.invariant.1)),
-      (let F : _ = All (λ x. (m.had x +ℤ pos s) <ℤ pos (2 ^ 63)) in subst F (sym (drop_after xs i y)) r.1),
+      (let F : _ = AllByRecursion (λ x. (m.had x +ℤ pos s) <ℤ pos (2 ^ 63)) in subst F (sym (drop_after xs i y)) r.1),
       c.give-done.ensures.upto,
     )
 

@@ -1,5 +1,5 @@
 use Rattle.std.proofs.Common.{◌≡◌, ℕ, ◌*◌, List, ◌++◌, length, take, drop}
-use Rattle.std.specs.List.{AllByRecursion as All}
+use Rattle.std.specs.List.{AllByRecursion}
 use Rattle.codec.specs.Records.{Placed, encode_placed}
 use Rattle.format.specs.Hours.{records_of, factors_of}
 use Rattle.packages.specs.Filling.{IsPlaced}
@@ -8,5 +8,5 @@ use Rattle.packages.proofs.filling.fill_rows.Given as goal
 abbrev pub invariant-loop-i : goal.invariant-loop-i
 invariant-loop-i l =
     (l.at ≡ l._i * l.columns)
-    × ((xs : List Placed) (more : List ℕ) → l.initial.reader.rest.now ≡ records_of 80 encode_placed xs ++ more → length xs ≡ l.points → All (IsPlaced l.columns) xs
+    × ((xs : List Placed) (more : List ℕ) → l.initial.reader.rest.now ≡ records_of 80 encode_placed xs ++ more → length xs ≡ l.points → AllByRecursion (IsPlaced l.columns) xs
     → (l.reader.rest.now ≡ records_of 80 encode_placed (drop l._i xs) ++ more) × (take l.at l.table ≡ factors_of (take l._i xs)))

@@ -4,7 +4,7 @@ use Rattle.codec.specs.Bytes.{Bytes}
 use Rattle.codec.specs.Records.{encode_constraint, encode_placed, encode_holding}
 use Rattle.format.specs.Hours.{Tables, records_of, points_of, factors_of}
 use Rattle.records.specs.Frames.{frame_of}
-use Rattle.std.specs.List.{AllByRecursion as All}
+use Rattle.std.specs.List.{AllByRecursion}
 use Rattle.packages.specs.Filling.{IsPlaced}
 use Rattle.packages.proofs.Rowing.{spelling, spelling_records, spelling_rows, spelling_same, spelling_length, constraints_read, holdings_read, points_read, points_placed, passed, laid_by}
 use Rattle.packages.proofs.reading.fill_tables.Goals as goal
@@ -31,7 +31,7 @@ returns c = λ t e nc np nf nh.
     let q2 = c.fill-2.ensures 80 (spelling encode_placed (λ x. x.point) l.hour.points) H (q1.1 ∙ ap (λ ys. ys ++ H) (sym (spelling_records 80 encode_placed (λ x. x.point) l.hour.points))) (spelling_length encode_placed (λ x. x.point) l.hour.points ∙ sym lp ∙ ap length sp ∙ np) (points_read (length l.hour.constraints) l.hour.points g.few_constraints g.points) in
     let k1 : length c.fill.new.table ≡ length l.hour.constraints = c.fill.auto.table ∙ sym nc ∙ ap length (sym sc) in
     let k2 : length l.hour.points ≡ length c.fill-2.new.table = sym lp ∙ ap length sp ∙ np ∙ sym c.fill-2.auto.table in
-    let pl = subst (λ (m : ℕ). All (IsPlaced m) l.hour.points) (sym k1) (points_placed (length l.hour.constraints) l.hour.points g.few_constraints g.points) in
+    let pl = subst (λ (m : ℕ). AllByRecursion (IsPlaced m) l.hour.points) (sym k1) (points_placed (length l.hour.constraints) l.hour.points g.few_constraints g.points) in
     let q3 = c.fill_rows.ensures l.hour.points H q1.1 k2 pl in
     let q4 = c.fill-3.ensures 72 (spelling encode_holding (λ x. x) l.hour.holdings) [] (q2.1 ∙ sym (append-nil H) ∙ ap (λ ys. ys ++ []) (sym (spelling_records 72 encode_holding (λ x. x) l.hour.holdings))) (spelling_length encode_holding (λ x. x) l.hour.holdings ∙ ap length sh ∙ nh) (holdings_read l.hour.holdings g.holdings) in
     (q1.0 ∙ spelling_same encode_constraint l.hour.constraints ∙ sc, q2.0 ∙ spelling_rows encode_placed (λ x. x.point) l.hour.points ∙ sp, q3.0 ∙ sf, q4.0 ∙ spelling_same encode_holding l.hour.holdings ∙ sh)

@@ -1,7 +1,7 @@
 use Rattle.std.proofs.Common.{◌≤◌, length, subst}
 use Rattle.std.proofs.lemmas.List.{take_all}
 use Rattle.std.proofs.ByRecursion.{All-more}
-use Rattle.std.specs.List.{AllByRecursion as All}
+use Rattle.std.specs.List.{AllByRecursion}
 use Rattle.buffer.specs.Writes.{Wrote}
 use Rattle.format.specs.Hours.{records_of}
 use Rattle.writer.proofs.Runs.{record_room, record_more}
@@ -23,5 +23,5 @@ returns g c =
     let e = take_all c.loop-row.row-index c.args.rows.now le in
     record {
       wrote = subst (λ xs. Wrote c.args.out.now c.args.start (records_of g.R.Recorded.letter g.R.Recorded.fields xs) c.loop-row.at c.loop-row.out) e c.loop-row.invariant.0;
-      fits = subst (λ xs. All g.R.Recorded.fits xs) e c.loop-row.invariant.1;
+      fits = subst (λ xs. AllByRecursion g.R.Recorded.fits xs) e c.loop-row.invariant.1;
     }

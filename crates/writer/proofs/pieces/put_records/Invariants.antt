@@ -1,5 +1,5 @@
 use Rattle.std.proofs.Common.{take}
-use Rattle.std.specs.List.{AllByRecursion as All}
+use Rattle.std.specs.List.{AllByRecursion}
 use Rattle.buffer.specs.Writes.{Wrote}
 use Rattle.format.specs.Hours.{records_of}
 use Rattle.writer.proofs.pieces.put_records.Given as goal
@@ -7,4 +7,4 @@ use Rattle.writer.proofs.pieces.put_records.Given as goal
 abbrev pub invariant-loop-row : goal.invariant-loop-row
 invariant-loop-row g l =
     Wrote l.initial.out l.start (records_of g.R.Recorded.letter g.R.Recorded.fields (take l.row-index l.rows)) l.at l.out
-    × All g.R.Recorded.fits (take l.row-index l.rows)
+    × AllByRecursion g.R.Recorded.fits (take l.row-index l.rows)
