@@ -73,7 +73,7 @@ def defined(path):
             if m and not (is_answer(path) and m.group(2).startswith("goal.")):
                 yield m.group(1)
         elif inside:
-            m = re.match(r"\s+(?:pub )?(?:abbrev )?(\S+) : ", line) if inside != "module" else re.match(r"  (?:pub )?(?:abbrev )?([^\s(){}]+) : ", line)
+            m = re.match(r"\s+(?:(?:pub|abbrev|unfoldable) )*([^\s(){}]+) : ", line)
             if m:
                 yield m.group(1)
 

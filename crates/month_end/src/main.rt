@@ -12,6 +12,7 @@ use month_settlement::settle_month;
 use month_text::month_text;
 use payoff::standard_instrument;
 use std::io::Write;
+use std::process::ExitCode;
 use telling::{ToStandardError, because};
 
 /// Reads every file before the first hour is posted, and prints nothing before the month is closed.
@@ -41,12 +42,13 @@ fn run(rt: &HostRuntime) -> anyhow::Result<()> {
     }
 }
 
-fn main(rt: HostRuntime) -> anyhow::Result<()> {
+fn main(rt: HostRuntime) -> ExitCode {
     match run(&rt) {
-        Ok(()) => Ok(()),
+        Ok(()) => ExitCode::SUCCESS,
         Err(error) => {
-            eprintln!(rt; "month_end: {error}")?;
-            Err(error)
+            // standard error is the last place to tell anything
+            let _ = eprintln!(rt; "month_end: {error}");
+            ExitCode::FAILURE
         }
     }
 }

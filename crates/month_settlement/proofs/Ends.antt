@@ -57,20 +57,20 @@ module _ (n : ℕ) (f₀ f f₁ : Figures) (roll₀ roll roll₁ : List RollLine
 
   -- and closed
   module _ (f₂ : Figures) (loads loads' : List LoadLine) (cl : CloseAccepted f₁ roll₁ loads f₂ loads') where
-    abbrev closeMove : Move
-    closeMove = move (cell (is_refunded f₁) roll₁) (closed loads loads') (cell (is_closed f₂) roll₁)
+    abbrev close_move : Move
+    close_move = move (cell (is_refunded f₁) roll₁) (closed loads loads') (cell (is_closed f₂) roll₁)
 
-    abbrev closeMoves : List Move
-    closeMoves = refund_moves ++ (closeMove ∷ [])
+    abbrev close_moves : List Move
+    close_moves = refund_moves ++ (close_move ∷ [])
 
-    pub close-ledger : ledger_from blank (events_of closeMoves) ≡ with_loads (with_refund l) loads
-    close-ledger = ledger_more blank refund_moves (cell (is_refunded f₁) roll₁) (cell (is_closed f₂) roll₁) (closed loads loads') ∙ ap (λ (x : Ledger). with_loads x loads) refund_ledger
+    pub close_ledger : ledger_from blank (events_of close_moves) ≡ with_loads (with_refund l) loads
+    close_ledger = ledger_more blank refund_moves (cell (is_refunded f₁) roll₁) (cell (is_closed f₂) roll₁) (closed loads loads') ∙ ap (λ (x : Ledger). with_loads x loads) refund_ledger
 
-    pub close-holds : Holds n closeMoves (cell (is_closed f₂) roll₁)
-    close-holds = holds_alone n f₀ roll₀ st closeMoves (cell (is_closed f₂) roll₁) (chain_more _ refund_moves _ _ (closed loads loads') refund_chain (closes cl))
+    pub close_holds : Holds n close_moves (cell (is_closed f₂) roll₁)
+    close_holds = holds_alone n f₀ roll₀ st close_moves (cell (is_closed f₂) roll₁) (chain_more _ refund_moves _ _ (closed loads loads') refund_chain (closes cl))
 
-    pub close-paid : loads' ≡ lines_of (length loads) (load_line (with_loads (with_refund l) loads) loads)
-    close-paid = each_last n blank refund_moves closeMove close-holds.events ∙ ap (λ (x : Ledger). lines_of (length loads) (load_line (with_loads x loads) loads)) refund_ledger
+    pub close_paid : loads' ≡ lines_of (length loads) (load_line (with_loads (with_refund l) loads) loads)
+    close_paid = each_last n blank refund_moves close_move close_holds.events ∙ ap (λ (x : Ledger). lines_of (length loads) (load_line (with_loads x loads) loads)) refund_ledger
 
 month_test_lem : (m : Meaning) (n : ℕ) (packages : List (List ℕ)) (loads : List LoadLine) (o : Option Told) → roll_test n ≡ None → ending_test n (hours_ledger m n packages) loads ≡ o → month_test m n packages loads ≡ o
 month_test_lem m n packages loads o h e = ap (λ (t : Option Told). first_refusal t (ending_test n (hours_ledger m n packages) loads)) h ∙ e
@@ -79,8 +79,8 @@ pub settled_end : (m : Meaning) (n : ℕ) (packages : List (List ℕ)) (f₀ f f
 settled_end m n packages f₀ f f₂ roll₀ roll roll₁ hours₀ hours loads loads' st rt none all end =
     let l = hours_ledger m n packages in
     let f₁ = end.between in
-    let h = close-holds n f₀ f f₁ roll₀ roll roll₁ l st all.ran end.refund f₂ loads loads' end.close in
-    let e = close-ledger n f₀ f f₁ roll₀ roll roll₁ l st all.ran end.refund f₂ loads loads' end.close in
+    let h = close_holds n f₀ f f₁ roll₀ roll roll₁ l st all.ran end.refund f₂ loads loads' end.close in
+    let e = close_ledger n f₀ f f₁ roll₀ roll roll₁ l st all.ran end.refund f₂ loads loads' end.close in
     let B : Ledger → Type 0 = λ x. Balanced x in
     let G : Ledger → Type 0 = λ x. (k : ℕ) → 0 < x.paid k → (o : ℕ) → o < n → x.refund o ≡ x.short o in
     record {
@@ -88,7 +88,7 @@ settled_end m n packages f₀ f f₂ roll₀ roll roll₁ hours₀ hours loads l
       outcomes = all.told ∙ ap (λ (hs : List (Result BookedHour Refusal)). map (told_by (λ h. h)) hs ++ outcomes_of m n blank packages) none;
       month = h.month_of_ledger ∙ ap (figures_of n) e;
       owners = h.roll_of_ledger ∙ ap (λ (x : Ledger). lines_of n (owner_line x)) e;
-      paid = close-paid n f₀ f f₁ roll₀ roll roll₁ l st all.ran end.refund f₂ loads loads' end.close;
+      paid = close_paid n f₀ f f₁ roll₀ roll roll₁ l st all.ran end.refund f₂ loads loads' end.close;
       balanced = subst B e h.balanced;
       made_good = subst G e h.made_good;
     }

@@ -72,13 +72,13 @@ module _ (n : ℕ) (ps : List PointRow) (fs : List ℤ) (i first : ℕ) (p : Poi
         let m = row_long in
         omega arith
 
-    pub head-room : at + 16 ≤ length out
-    head-room = let r = whole_room in omega arith
+    pub head_room : at + 16 ≤ length out
+    head_room = let r = whole_room in omega arith
 
     pub row_room : (to : ℕ) (mid : List ℕ) → Wrote out at (be2 (14 + 2 * n) ++ (80 ∷ encode_point p)) to mid → to + 2 * length row ≤ length mid
     row_room to mid v = let r = whole_room in let m = row_long in omega (arith, v.end, v.len)
 
-    pub point-more : (to end : ℕ) (mid next : List ℕ) → Wrote out at (be2 (14 + 2 * n) ++ (80 ∷ encode_point p)) to mid → Wrote mid to (encode_factors row) end next → Wrote was start (records_of 80 encode_placed (take (i + 1) (placed n ps fs))) end next
-    point-more to end mid next v x =
+    pub point_more : (to end : ℕ) (mid next : List ℕ) → Wrote out at (be2 (14 + 2 * n) ++ (80 ∷ encode_point p)) to mid → Wrote mid to (encode_factors row) end next → Wrote was start (records_of 80 encode_placed (take (i + 1) (placed n ps fs))) end next
+    point_more to end mid next v x =
         record_more 80 encode_placed (placed n ps fs) i (placed_row p row) long at_i was out start at w end next
         (subst (λ (bs : List ℕ). Wrote out at bs end next) (parts n p row row_long) (joined out mid next at to end (be2 (14 + 2 * n) ++ (80 ∷ encode_point p)) (encode_factors row) v x))

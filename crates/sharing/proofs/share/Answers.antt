@@ -4,7 +4,7 @@ use Rattle.std.proofs.lemmas.List.Sums.{sum_by-drop_more}
 use Rattle.sharing.specs.Shares.{weights_of}
 use Rattle.sharing.proofs.Laws.{fair}
 use Rattle.sharing.proofs.Parts.{part_mono, part_le, up_to_all}
-use Rattle.sharing.proofs.Steps.{share_after, sharedFrom, all_step, drop_after, shared-more, shared-all, shared-out, length-shared}
+use Rattle.sharing.proofs.Steps.{share_after, shared_from, all_step, drop_after, shared_more, shared_all, shared_out, length_shared}
 use Rattle.sharing.proofs.share.Goals as goal
 
 pub overflow_add-seen : goal.overflow_add-seen
@@ -38,7 +38,7 @@ loop-line-preserved g c =
     let e : y ≡ m.given (get_or xs i d) (share_after s v b (m.weight (get_or xs i d))) =
     c.give-done.ensures.given ∙ ap (m.given (get_or xs i d)) (rw (c.loop-line.invariant.3, w) refl) in
     let r = all_step (λ x. (m.had x +ℤ pos s) <ℤ pos (2 ^ 63)) xs i d h c.loop-line.invariant.2 in (
-      ap (λ k. take (i + 1) (set xs i y) ++ sharedFrom m.weight m.given s v (b + k) (drop (i + 1) (set xs i y))) w ∙ shared-more m.weight m.given s v b xs i d y h e ∙ c.loop-line.invariant.0,
+      ap (λ k. take (i + 1) (set xs i y) ++ shared_from m.weight m.given s v (b + k) (drop (i + 1) (set xs i y))) w ∙ shared_more m.weight m.given s v b xs i d y h e ∙ c.loop-line.invariant.0,
       rw (drop_after xs i y) (omega (arith, w, sum_by-drop_more m.weight xs i d h, c.loop-line.invariant.1)),
       (let F : _ = AllByRecursion (λ x. (m.had x +ℤ pos s) <ℤ pos (2 ^ 63)) in subst F (sym (drop_after xs i y)) r.1),
       c.give-done.ensures.upto,
@@ -50,9 +50,9 @@ returns g c =
     let xs = c.args.lines.now in
     let s = c.args.sum in
     let v = c.args.total in
-    let e = sym (shared-all m.weight m.given s v c.loop-line.seen c.loop-line.lines c.loop-line.line-index (omega arith)) ∙ c.loop-line.invariant.0 in
+    let e = sym (shared_all m.weight m.given s v c.loop-line.seen c.loop-line.lines c.loop-line.line-index (omega arith)) ∙ c.loop-line.invariant.0 in
     record {
-      shared = λ d i h. ap (λ l. get_or l i d) e ∙ shared-out m.weight m.given s v xs d i h;
-      kept = ap length e ∙ length-shared m.weight m.given s v 0 xs;
+      shared = λ d i h. ap (λ l. get_or l i d) e ∙ shared_out m.weight m.given s v xs d i h;
+      kept = ap length e ∙ length_shared m.weight m.given s v 0 xs;
       fair = λ d. fair s v (weights_of m.weight xs d) (length xs) (up_to_all m.weight xs d ∙ c.requires.weighed) c.requires.zero;
     }

@@ -6,7 +6,7 @@ use Rattle.codec.specs.Records.{Placed, encode_placed, encode_point}
 use Rattle.buffer.specs.Writes.{Wrote}
 use Rattle.format.specs.Hours.{records_of, placed}
 use Rattle.format.proofs.Ways.{placed_long}
-use Rattle.writer.proofs.Points.{row_end, row_next, head-room, row_room, point-more}
+use Rattle.writer.proofs.Points.{row_end, row_next, head_room, row_room, point_more}
 use Rattle.writer.proofs.pieces.put_points.Goals as goal
 
 -- the point of a turn
@@ -36,16 +36,16 @@ head out bytes mid at n to p e put room = subst (λ (bs : List ℕ). Wrote out a
 pub put_factors-at-requires : goal.put_factors-at-requires
 put_factors-at-requires c =
     let p = turn c.args.points.now c.loop-point.point-index in
-    let room = head-room c.args.columns c.args.points.now c.args.factors.now c.loop-point.point-index c.loop-point.first (turn c.args.points.now c.loop-point.point-index) c.loop-point-test.true (itself _ _ c.loop-point-test.true) c.loop-point.invariant.0 c.requires.rows c.args.out.now c.loop-point.out c.args.start c.loop-point.at c.loop-point.invariant.1 c.requires.room in
+    let room = head_room c.args.columns c.args.points.now c.args.factors.now c.loop-point.point-index c.loop-point.first (turn c.args.points.now c.loop-point.point-index) c.loop-point-test.true (itself _ _ c.loop-point-test.true) c.loop-point.invariant.0 c.requires.rows c.args.out.now c.loop-point.out c.args.start c.loop-point.at c.loop-point.invariant.1 c.requires.room in
     let v = head c.loop-point.out c.point_head.result c.put-to.new.out c.loop-point.at c.args.columns c.put-to.result (turn c.args.points.now c.loop-point.point-index) c.point_head.ensures c.put-to.ensures.wrote room in
     row_room c.args.columns c.args.points.now c.args.factors.now c.loop-point.point-index c.loop-point.first (turn c.args.points.now c.loop-point.point-index) c.loop-point-test.true (itself _ _ c.loop-point-test.true) c.loop-point.invariant.0 c.requires.rows c.args.out.now c.loop-point.out c.args.start c.loop-point.at c.loop-point.invariant.1 c.requires.room c.put-to.result c.put-to.new.out v
 
 pub loop-point-preserved : goal.loop-point-preserved
 loop-point-preserved c =
-    let room = head-room c.args.columns c.args.points.now c.args.factors.now c.loop-point.point-index c.loop-point.first (turn c.args.points.now c.loop-point.point-index) c.loop-point-test.true (itself _ _ c.loop-point-test.true) c.loop-point.invariant.0 c.requires.rows c.args.out.now c.loop-point.out c.args.start c.loop-point.at c.loop-point.invariant.1 c.requires.room in
+    let room = head_room c.args.columns c.args.points.now c.args.factors.now c.loop-point.point-index c.loop-point.first (turn c.args.points.now c.loop-point.point-index) c.loop-point-test.true (itself _ _ c.loop-point-test.true) c.loop-point.invariant.0 c.requires.rows c.args.out.now c.loop-point.out c.args.start c.loop-point.at c.loop-point.invariant.1 c.requires.room in
     let v = head c.loop-point.out c.point_head.result c.put-to.new.out c.loop-point.at c.args.columns c.put-to.result (turn c.args.points.now c.loop-point.point-index) c.point_head.ensures c.put-to.ensures.wrote room in (
       row_next c.args.columns c.args.points.now c.args.factors.now c.loop-point.point-index c.loop-point.first (turn c.args.points.now c.loop-point.point-index) c.loop-point-test.true (itself _ _ c.loop-point-test.true) c.loop-point.invariant.0 c.requires.rows,
-      point-more c.args.columns c.args.points.now c.args.factors.now c.loop-point.point-index c.loop-point.first (turn c.args.points.now c.loop-point.point-index) c.loop-point-test.true (itself _ _ c.loop-point-test.true) c.loop-point.invariant.0 c.requires.rows c.args.out.now c.loop-point.out c.args.start c.loop-point.at c.loop-point.invariant.1 c.requires.room c.put-to.result c.put_factors-at.result c.put-to.new.out c.put_factors-at.new.out v c.put_factors-at.ensures,
+      point_more c.args.columns c.args.points.now c.args.factors.now c.loop-point.point-index c.loop-point.first (turn c.args.points.now c.loop-point.point-index) c.loop-point-test.true (itself _ _ c.loop-point-test.true) c.loop-point.invariant.0 c.requires.rows c.args.out.now c.loop-point.out c.args.start c.loop-point.at c.loop-point.invariant.1 c.requires.room c.put-to.result c.put_factors-at.result c.put-to.new.out c.put_factors-at.new.out v c.put_factors-at.ensures,
     )
 
 pub returns : goal.returns
