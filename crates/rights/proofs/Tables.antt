@@ -17,8 +17,8 @@ head_more hs heads i b h e =
     cond_both (eqb (bucket_at hs i) b) (suc i) (last_in hs b i) (λ m. get_or (set heads (bucket_at hs i) (suc i)) b 0 ≡ m) own other
 
 pub chain_more : (hs : List HoldingRow) (heads next heads' next' : List ℕ) (i b : ℕ) → i < 1024 → b < 1024 → b ≡ bucket_at hs i → Chained hs heads next i → heads' ≡ set heads b (i + 1) → next' ≡ set next i (get_or heads b 0) → Chained hs heads' next' (i + 1)
-chain_more hs heads next heads' next' i b few small own c to_Heads to-next =
+chain_more hs heads next heads' next' i b few small own c to_heads to_next =
     let head : (a : ℕ) → a < 1024 → get_or (set heads b (i + 1)) a 0 ≡ last_in hs a (i + 1) = λ a h. rw (add-one, own) (head_more hs heads i a (omega (arith, c.buckets)) (c.begins a h)) in
     let old : (a : ℕ) → a < i → get_or (set next i (get_or heads b 0)) a 0 ≡ last_in hs (bucket_at hs a) a = λ a h. get_or-set_other next i a (get_or heads b 0) 0 (omega arith) ∙ c.leads a h in
     let new : get_or (set next i (get_or heads b 0)) i 0 ≡ last_in hs (bucket_at hs i) i = get_or-set_same next i (get_or heads b 0) 0 (omega (arith, c.links)) ∙ c.begins b small ∙ ap (λ m. last_in hs m i) own in
-    rw (to_Heads, to-next) (record { buckets = length-set heads b (i + 1) ∙ c.buckets; links = length-set next i (get_or heads b 0) ∙ c.links; begins = head; leads = below_more _ _ old new })
+    rw (to_heads, to_next) (record { buckets = length-set heads b (i + 1) ∙ c.buckets; links = length-set next i (get_or heads b 0) ∙ c.links; begins = head; leads = below_more _ _ old new })
