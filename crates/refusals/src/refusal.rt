@@ -2,7 +2,7 @@ ghost use Rattle.std.specs.Prelude.{◌≡◌};
 ghost use Rattle.refusals.specs.Numbers.{number_of, layer_of};
 
 /// Which part of the settlement refuses.
-#[derive(Clone, Copy)]
+#[derive(Clone, Copy, Debug, PartialEq, Eq)]
 pub enum Layer {
     Package,
     Instrument,
@@ -10,34 +10,34 @@ pub enum Layer {
     Month,
 }
 
-/// Why a call refuses: one case for each line of the table of refusals.
-#[derive(Clone, Copy)]
+/// Why a call refuses: one case for each line of the table of refusals, with its number there.
+#[derive(Clone, Copy, Debug, PartialEq, Eq)]
 pub enum Cause {
-    PackageLength,
-    Version,
-    RecordLength,
-    RecordOrder,
-    TooManyRecords,
-    OutOfRange,
-    TooShort,
-    Sizes,
-    OwnerOffRoll,
-    PointPair,
-    WrongBlock,
-    NotServed,
-    RepeatedHolding,
-    HourMoney,
-    BadEntry,
-    HourOrder,
-    RollMismatch,
-    MonthMoney,
-    NoLoad,
-    LoadLine,
-    RollSize,
+    PackageLength = 1,
+    Version = 2,
+    RecordLength = 3,
+    RecordOrder = 4,
+    TooManyRecords = 5,
+    OutOfRange = 6,
+    TooShort = 7,
+    Sizes = 11,
+    OwnerOffRoll = 12,
+    PointPair = 13,
+    WrongBlock = 14,
+    NotServed = 15,
+    RepeatedHolding = 16,
+    HourMoney = 17,
+    BadEntry = 18,
+    HourOrder = 21,
+    RollMismatch = 22,
+    MonthMoney = 23,
+    NoLoad = 24,
+    LoadLine = 25,
+    RollSize = 26,
 }
 
 /// A refusal: its cause, which has a layer and a number, and the place of what was refused.
-#[derive(Clone, Copy)]
+#[derive(Clone, Copy, Debug, PartialEq, Eq)]
 pub struct Refusal {
     pub cause: Cause,
     pub place: usize,
@@ -48,29 +48,15 @@ impl Cause {
     pub fn number(self) -> u8
         ensures { result ≡ number_of self }
     {
-        match self {
-            Cause::PackageLength => 1,
-            Cause::Version => 2,
-            Cause::RecordLength => 3,
-            Cause::RecordOrder => 4,
-            Cause::TooManyRecords => 5,
-            Cause::OutOfRange => 6,
-            Cause::TooShort => 7,
-            Cause::Sizes => 11,
-            Cause::OwnerOffRoll => 12,
-            Cause::PointPair => 13,
-            Cause::WrongBlock => 14,
-            Cause::NotServed => 15,
-            Cause::RepeatedHolding => 16,
-            Cause::HourMoney => 17,
-            Cause::BadEntry => 18,
-            Cause::HourOrder => 21,
-            Cause::RollMismatch => 22,
-            Cause::MonthMoney => 23,
-            Cause::NoLoad => 24,
-            Cause::LoadLine => 25,
-            Cause::RollSize => 26,
-        }
+        self as u8
+    }
+
+    /// The refusal of what stands at a place.
+    pub fn at(self, place: usize) -> Refusal
+        ensures cause { result.cause ≡ self }
+        ensures place { result.place ≡ place }
+    {
+        Refusal { cause: self, place }
     }
 
     /// The layer, which the number decides.

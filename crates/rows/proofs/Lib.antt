@@ -1,4 +1,5 @@
 pub mod Firsts
 pub mod Named
 pub mod Ranges
+pub mod Rows
 pub mod Tables

@@ -1,4 +1,5 @@
 pub mod Letters
+pub mod Named
 pub mod Ranges
 pub mod Firsts
 pub mod Plain

@@ -5,6 +5,7 @@
 
 mod constraint;
 mod day;
+mod from_row;
 mod holding;
 mod letters;
 mod made;
@@ -19,11 +20,11 @@ mod week;
 
 pub use constraint::Constraint;
 pub use day::Day;
+pub use from_row::FromRow;
 pub use holding::Holding;
-pub use letters::{Block, InstrumentKind, PointKind};
+pub use letters::{Block, InstrumentKind, PointKind, UnknownLetter};
 pub use plain::{ConstraintRow, DayRow, HoldingRow, PointRow};
 pub use point::Point;
 pub use quantity::HeldQuantity;
 pub use sound::{Sound, first_bad};
-pub use spelling::{block_of, instrument_of, point_of};
 pub use week::block_at;

@@ -1,31 +1,27 @@
-ghost use Rattle.std.specs.Prelude.{◌≡◌, true, if◌then◌else◌, Ok, Err};
-ghost use Rattle.refusals.specs.Numbers.{told_by, refused_at};
 ghost use Rattle.rows.specs.Ranges.{day_ok};
 ghost use Rattle.rows.specs.Plain.{plain_day};
 
 use crate::day::Day;
+use crate::from_row::FromRow;
 use crate::plain::DayRow;
-use refusals::{Cause, Refusal};
 use units::Cents;
 
-impl Day {
-    /// The hour of a plain row, or refusal 6 at the row's place.
-    pub fn from_row(row: &DayRow, place: usize) -> Result<Day, Refusal>
-        ensures { told_by plain_day result ≡ (if day_ok row.now then Ok row.now else Err (refused_at 6 place)) }
-    {
-        if row.hour < 1
-            || row.hour > 744
+impl FromRow for Day {
+    type Row = DayRow;
+
+    ghost plain = { plain_day };
+
+    ghost ok = { day_ok };
+
+    fn typed(row: &DayRow) -> Option<Day> {
+        if !(1..=744).contains(&row.hour)
             || row.weekday > 6
-            || row.ending < 1
-            || row.ending > 24
+            || !(1..=24).contains(&row.ending)
             || row.rent > 3_000_000_000
         {
-            return Err(Refusal {
-                cause: Cause::OutOfRange,
-                place,
-            });
+            return None;
         }
-        Ok(Day {
+        Some(Day {
             hour: row.hour,
             weekday: row.weekday,
             ending: row.ending,
@@ -33,12 +29,5 @@ impl Day {
                 value: row.rent as i64,
             },
         })
-    }
-
-    /// An hour made directly, of figures that stand in no table, or refusal 6 at place 0.
-    pub fn new(row: DayRow) -> Result<Day, Refusal>
-        ensures { told_by plain_day result ≡ (if day_ok row then Ok row else Err (refused_at 6 0)) }
-    {
-        Day::from_row(&row, 0)
     }
 }

@@ -1,8 +1,10 @@
-ghost use Rattle.std.specs.Prelude.{◌≡◌, Bool, not, is_some};
+ghost use Rattle.std.specs.Prelude.{◌≡◌, Bool, true, not, ◌&&◌};
+ghost use Rattle.std.specs.List.{fold, position};
 ghost use Rattle.rows.specs.Ranges.{constraint_ok, point_ok, factor_ok, holding_ok};
 ghost use Rattle.rows.specs.Firsts.{first_bad};
 
 use crate::constraint::Constraint;
+use crate::from_row::FromRow;
 use crate::holding::Holding;
 use crate::plain::{ConstraintRow, HoldingRow, PointRow};
 use crate::point::Point;
@@ -19,7 +21,7 @@ impl Sound for ConstraintRow {
     ghost ok = { constraint_ok };
 
     fn sound(&self) -> bool {
-        Constraint::from_row(self, 0).is_ok()
+        Constraint::typed(self).is_some()
     }
 }
 
@@ -27,7 +29,7 @@ impl Sound for PointRow {
     ghost ok = { point_ok };
 
     fn sound(&self) -> bool {
-        Point::from_row(self, 0).is_ok()
+        Point::typed(self).is_some()
     }
 }
 
@@ -35,7 +37,7 @@ impl Sound for i16 {
     ghost ok = { factor_ok };
 
     fn sound(&self) -> bool {
-        *self >= -10_000 && *self <= 10_000
+        (-10_000..=10_000).contains(self)
     }
 }
 
@@ -43,20 +45,23 @@ impl Sound for HoldingRow {
     ghost ok = { holding_ok };
 
     fn sound(&self) -> bool {
-        Holding::from_row(self, 0).is_ok()
+        Holding::typed(self).is_some()
     }
 }
 
 /// Whether every entry passes its test. All are tested, even past one that fails: with no way out of the loop the
 /// compiler tests several shift factors at once.
 fn all_sound<R: Sound>(rows: &[R]) -> bool
-    ensures { result ≡ not (is_some (first_bad R.ok rows.now)) }
+    ensures { result ≡ fold (λ all row. all && R.ok row) true rows.now }
 {
-    let mut all = true;
-    for row in rows {
-        all &= row.sound();
-    }
-    all
+    rows.iter().fold(true, |all, row| all & row.sound())
+}
+
+/// The place of the first entry that fails its test.
+fn first_failing<R: Sound>(rows: &[R]) -> Option<usize>
+    ensures { result ≡ position (λ row. not (R.ok row)) rows.now }
+{
+    rows.iter().position(|row| !row.sound())
 }
 
 /// The place of the first entry that fails its test, which is looked for only where one does.
@@ -64,12 +69,8 @@ pub fn first_bad<R: Sound>(rows: &[R]) -> Option<usize>
     ensures { result ≡ first_bad R.ok rows.now }
 {
     if all_sound(rows) {
-        return None;
+        None
+    } else {
+        first_failing(rows)
     }
-    for (i, row) in rows.iter().enumerate() {
-        if !row.sound() {
-            return Some(i);
-        }
-    }
-    None
 }

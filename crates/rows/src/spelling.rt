@@ -1,42 +1,55 @@
 ghost use Rattle.std.specs.Prelude.{◌≡◌};
 ghost use Rattle.rows.specs.Letters.{point_letter, instrument_letter, block_letter, point_of, instrument_of, block_of, has_refund};
+ghost use Rattle.rows.specs.Named.{named_by};
 
-use crate::letters::{Block, InstrumentKind, PointKind};
+use crate::letters::{Block, InstrumentKind, PointKind, UnknownLetter};
 
 /// The kind of point that a letter names.
-pub fn point_of(letter: char) -> Option<PointKind>
-    ensures { result ≡ point_of letter }
-{
-    match letter {
-        'Z' => Some(PointKind::LoadZone),
-        'H' => Some(PointKind::Hub),
-        'R' => Some(PointKind::ResourceNode),
-        _ => None,
+impl TryFrom<char> for PointKind {
+    type Error = UnknownLetter;
+
+    ghost try_from_gives = { λ l r. r ≡ named_by point_of l };
+
+    fn try_from(letter: char) -> Result<PointKind, UnknownLetter> {
+        match letter {
+            'Z' => Ok(PointKind::LoadZone),
+            'H' => Ok(PointKind::Hub),
+            'R' => Ok(PointKind::ResourceNode),
+            _ => Err(UnknownLetter { letter }),
+        }
     }
 }
 
 /// The instrument that a letter names.
-pub fn instrument_of(letter: char) -> Option<InstrumentKind>
-    ensures { result ≡ instrument_of letter }
-{
-    match letter {
-        'B' => Some(InstrumentKind::Obligation),
-        'O' => Some(InstrumentKind::PtpOption),
-        'b' => Some(InstrumentKind::ObligationWithRefund),
-        'o' => Some(InstrumentKind::OptionWithRefund),
-        _ => None,
+impl TryFrom<char> for InstrumentKind {
+    type Error = UnknownLetter;
+
+    ghost try_from_gives = { λ l r. r ≡ named_by instrument_of l };
+
+    fn try_from(letter: char) -> Result<InstrumentKind, UnknownLetter> {
+        match letter {
+            'B' => Ok(InstrumentKind::Obligation),
+            'O' => Ok(InstrumentKind::PtpOption),
+            'b' => Ok(InstrumentKind::ObligationWithRefund),
+            'o' => Ok(InstrumentKind::OptionWithRefund),
+            _ => Err(UnknownLetter { letter }),
+        }
     }
 }
 
 /// The block that a letter names.
-pub fn block_of(letter: char) -> Option<Block>
-    ensures { result ≡ block_of letter }
-{
-    match letter {
-        'W' => Some(Block::PeakWeekday),
-        'E' => Some(Block::PeakWeekend),
-        'N' => Some(Block::OffPeak),
-        _ => None,
+impl TryFrom<char> for Block {
+    type Error = UnknownLetter;
+
+    ghost try_from_gives = { λ l r. r ≡ named_by block_of l };
+
+    fn try_from(letter: char) -> Result<Block, UnknownLetter> {
+        match letter {
+            'W' => Ok(Block::PeakWeekday),
+            'E' => Ok(Block::PeakWeekend),
+            'N' => Ok(Block::OffPeak),
+            _ => Err(UnknownLetter { letter }),
+        }
     }
 }
 
