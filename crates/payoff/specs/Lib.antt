@@ -1,4 +1,5 @@
 pub mod Tables
+pub mod Plain
 pub mod Prices
 pub mod Rules
 pub mod Payments

@@ -6,12 +6,13 @@ use Rattle.payoff.specs.declared.tested.TestedTables.{TestedTables}
 use Rattle.payoff.specs.declared.pair.Pair.{Pair}
 use Rattle.payoff.specs.declared.figures.Figures.{Figures}
 use Rattle.payoff.specs.declared.payment.Payment.{Payment}
-use Rattle.payoff.specs.Tables.{Tables, tables, pair_ok, Ends, ends_of}
+use Rattle.payoff.specs.Tables.{Tables, pair_ok, Ends, ends_of}
+use Rattle.payoff.specs.Plain.{plain_tables}
 use Rattle.payoff.specs.Rules.{Payoff}
 use Rattle.payoff.specs.Payments.{Rate}
 
 abbrev pub tables_of : TestedTables → Tables
-tables_of v = tables v.constraints.now v.points.now v.factors.now
+tables_of v = plain_tables v.plain
 
 abbrev pub plain_pair : Pair → Ends
 plain_pair p = record { source = plain_point p.source; sink = plain_point p.sink }

@@ -38,12 +38,16 @@ pub(crate) fn deration_price(hour: &TestedTables, holding: &Holding) -> Price
     requires { pair_ok (tables_of hour.now) (plain_holding holding.now) ≡ true }
     ensures { result.value ≡ deration_price_of (tables_of hour.now) (plain_holding holding.now) }
 {
-    let n = hour.constraints.len();
+    let n = hour.plain.constraints.len();
     let source = holding.source as usize * n;
     let sink = holding.sink as usize * n;
     let mut sum: u64 = 0;
-    for (c, row) in hour.constraints.iter().enumerate() {
-        sum += deration_term(row, hour.factors[source + c], hour.factors[sink + c]);
+    for (c, row) in hour.plain.constraints.iter().enumerate() {
+        sum += deration_term(
+            row,
+            hour.plain.factors[source + c],
+            hour.plain.factors[sink + c],
+        );
     }
     Price {
         value: deration_cents(sum) as i32,

@@ -7,32 +7,14 @@ ghost use Rattle.payoff.specs.View.{tables_of, plain_pair, pair_of};
 
 use crate::pair::Pair;
 use crate::tested::TestedTables;
-use rows::{Holding, Point, PointKind, PointRow};
-use units::Price;
+use rows::{FromRow, Holding, Point, PointRow};
 
-/// The kind that a point's letter names, which is one of the three.
-fn named_kind(letter: u8) -> PointKind
-    requires { is_some (point_of letter) ≡ true }
-    ensures { point_of letter ≡ Some result }
-{
-    match letter as char {
-        'R' => PointKind::ResourceNode,
-        'H' => PointKind::Hub,
-        _ => PointKind::LoadZone,
-    }
-}
-
-/// The point of a row that has passed its test, which is not tested again.
+/// The point of a row that has passed its test.
 fn typed_point(row: &PointRow) -> Point
     requires { point_ok row.now ≡ true }
     ensures { plain_point result ≡ row.now }
 {
-    Point {
-        kind: named_kind(row.letter),
-        price: Price { value: row.price },
-        minimum: Price { value: row.minimum },
-        maximum: Price { value: row.maximum },
-    }
+    Point::typed(row).unwrap()
 }
 
 impl TestedTables<'_> {
@@ -42,12 +24,12 @@ impl TestedTables<'_> {
     {
         let source = holding.source as usize;
         let sink = holding.sink as usize;
-        if source >= self.points.len() || sink >= self.points.len() || source == sink {
+        if source >= self.plain.points.len() || sink >= self.plain.points.len() || source == sink {
             return None;
         }
         Some(Pair {
-            source: typed_point(&self.points[source]),
-            sink: typed_point(&self.points[sink]),
+            source: typed_point(&self.plain.points[source]),
+            sink: typed_point(&self.plain.points[sink]),
         })
     }
 }

@@ -20,10 +20,8 @@ pub(crate) fn payment_price(target: Price, deration: Price, floor: Price) -> Pri
 }
 
 impl Figures {
-    /// What four figures that keep the payoff rules are paid by.
-    pub(crate) fn payment(&self) -> Payment
-        requires under { self.now.floor.value ≤ℤ self.now.target.value }
-        requires deration { pos 0 ≤ℤ self.now.deration.value }
+    /// What the four figures are paid by.
+    pub fn payment(&self) -> Payment
         ensures { plain_payment result ≡ rate_of (payoff_of self.now) }
     {
         Payment {

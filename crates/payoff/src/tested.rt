@@ -1,14 +1,12 @@
 ghost use Rattle.std.specs.Prelude.{◌≡◌, true};
-ghost use Rattle.payoff.specs.Tables.{tables, tables_ok};
+ghost use Rattle.payoff.specs.Tables.{tables_ok};
+ghost use Rattle.payoff.specs.Plain.{plain_tables};
 
-use rows::{ConstraintRow, PointRow};
+use crate::tables::PlainTables;
 
-/// The hour's tables, which have passed their tests: constraints, points, and the shift factors by point and then by
-/// constraint.
+/// The hour's tables, which have passed their tests.
 #[derive(Clone, Copy)]
 pub struct TestedTables<'a> {
-    pub constraints: &'a [ConstraintRow],
-    pub points: &'a [PointRow],
-    pub factors: &'a [i16],
-    ghost passed: { tables_ok (tables constraints.now points.now factors.now) ≡ true },
+    pub plain: PlainTables<'a>,
+    ghost passed: { tables_ok (plain_tables plain) ≡ true },
 }

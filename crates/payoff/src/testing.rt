@@ -1,77 +1,36 @@
-ghost use Rattle.std.specs.Prelude.{◌≡◌};
-ghost use Rattle.std.specs.Option.{option_map};
+ghost use Rattle.std.specs.Prelude.{◌≡◌, Some, None, MatchResult};
 ghost use Rattle.refusals.specs.Numbers.{told};
-ghost use Rattle.payoff.specs.Tables.{tables, tables_test, bad_entry, passing};
+ghost use Rattle.payoff.specs.Tables.{tables_test, bad_entry};
+ghost use Rattle.payoff.specs.Plain.{plain_tables};
 ghost use Rattle.payoff.specs.View.{tables_of};
 
+use crate::tables::PlainTables;
 use crate::tested::TestedTables;
 use refusals::{Cause, Refusal};
-use rows::{ConstraintRow, PointRow, first_bad};
+use rows::first_bad;
 
 /// The first entry out of range: constraints first, then points and shift factors.
-fn bad_entry(constraints: &[ConstraintRow], points: &[PointRow], factors: &[i16]) -> Option<usize>
-    ensures { result ≡ bad_entry (tables constraints.now points.now factors.now) }
+fn bad_entry(tables: &PlainTables) -> Option<usize>
+    ensures { result ≡ bad_entry (plain_tables tables.now) }
 {
-    if let Some(i) = first_bad(constraints) {
-        return Some(i);
-    }
-    if let Some(i) = first_bad(points) {
-        return Some(i);
-    }
-    first_bad(factors)
+    first_bad(tables.constraints)
+        .or_else(|| first_bad(tables.points))
+        .or_else(|| first_bad(tables.factors))
 }
 
-/// The refusal of the tables, if any: 11 for their sizes, 18 for their first entry out of range.
-fn tables_refusal(
-    constraints: &[ConstraintRow],
-    points: &[PointRow],
-    factors: &[i16],
-) -> Option<Refusal>
-    ensures { option_map told result ≡ tables_test (tables constraints.now points.now factors.now) }
+/// Tests the hour's tables once: 11 for their sizes, 18 for their first entry out of range. Answers the tables, to be
+/// used as tested.
+pub fn test_tables<'a>(tables: &PlainTables<'a>) -> Result<TestedTables<'a>, Refusal>
+    ensures { MatchResult result (λ hour. (tables_test (plain_tables tables.now) ≡ None) × (tables_of hour ≡ plain_tables tables.now)) (λ e. tables_test (plain_tables tables.now) ≡ Some (told e)) }
 {
-    if points.len() > 256
-        || constraints.len() > 32
-        || factors.len() != points.len() * constraints.len()
+    if tables.points.len() > 256
+        || tables.constraints.len() > 32
+        || tables.factors.len() != tables.points.len() * tables.constraints.len()
     {
-        return Some(Refusal {
-            cause: Cause::Sizes,
-            place: 0,
-        });
+        return Err(Cause::Sizes.at(0));
     }
-    match bad_entry(constraints, points, factors) {
-        Some(place) => Some(Refusal {
-            cause: Cause::BadEntry,
-            place,
-        }),
-        None => None,
+    if let Some(place) = bad_entry(tables) {
+        return Err(Cause::BadEntry.at(place));
     }
-}
-
-/// Tests the hour's tables once. Answers the tables, to be used as tested, or the empty hour beside the refusal.
-pub fn test_tables<'a>(
-    constraints: &'a [ConstraintRow],
-    points: &'a [PointRow],
-    factors: &'a [i16],
-) -> (TestedTables<'a>, Option<Refusal>)
-    ensures refusal { option_map told result.1 ≡ tables_test (tables constraints.now points.now factors.now) }
-    ensures view { tables_of result.0 ≡ passing (tables_test (tables constraints.now points.now factors.now)) (tables constraints.now points.now factors.now) }
-{
-    match tables_refusal(constraints, points, factors) {
-        None => (
-            TestedTables {
-                constraints,
-                points,
-                factors,
-            },
-            None,
-        ),
-        Some(refusal) => (
-            TestedTables {
-                constraints: &[],
-                points: &[],
-                factors: &[],
-            },
-            Some(refusal),
-        ),
-    }
+    Ok(TestedTables { plain: *tables })
 }
