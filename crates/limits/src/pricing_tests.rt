@@ -1,4 +1,4 @@
-use payoff::{Obligation, standard_instrument};
+use payoff::{Obligation, PlainTables, standard_instrument};
 use pricing::price;
 use rows::{ConstraintRow, HoldingRow, PointRow};
 
@@ -38,35 +38,29 @@ fn amount(holding: &HoldingRow) -> Result<i64, (u8, usize)> {
         point(b'R', -1_000_000, 1_000_000, 1_000_000),
     ];
     let factors = [-10_000, 10_000, 0, 10_000];
-    match price(
-        &standard_instrument(),
-        &[CONSTRAINT; 1],
-        &points,
-        &factors,
-        holding,
-    ) {
-        Ok(p) => Ok(p.amount.value),
-        Err(e) => Err((e.cause.number(), e.place)),
-    }
+    let tables = PlainTables {
+        constraints: &[CONSTRAINT; 1],
+        points: &points,
+        factors: &factors,
+    };
+    price(&standard_instrument(), &tables, holding)
+        .map(|p| p.amount.value)
+        .map_err(|e| (e.cause.number(), e.place))
 }
 
 /// The deration price of the largest hour: every constraint adds its most.
 fn largest_deration() -> Option<i32> {
     let points = [point(b'R', 0, 0, 0), point(b'Z', 0, 0, 0)];
     let mut factors = [10_000i16; 64];
-    for c in 32..64 {
-        factors[c] = -10_000;
-    }
-    match price(
-        &Obligation,
-        &[CONSTRAINT; 32],
-        &points,
-        &factors,
-        &held(b'B', 0, 1),
-    ) {
-        Ok(p) => Some(p.deration_price.value),
-        Err(_) => None,
-    }
+    factors[32..].fill(-10_000);
+    let tables = PlainTables {
+        constraints: &[CONSTRAINT; 32],
+        points: &points,
+        factors: &factors,
+    };
+    price(&Obligation, &tables, &held(b'B', 0, 1))
+        .ok()
+        .map(|p| p.deration_price.value)
 }
 
 #[test]

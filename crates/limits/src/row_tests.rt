@@ -1,7 +1,7 @@
 use refusals::Refusal;
 use rows::{
-    Constraint, ConstraintRow, Day, DayRow, HeldQuantity, Holding, HoldingRow, Point, PointRow,
-    block_at,
+    Constraint, ConstraintRow, Day, DayRow, FromRow, HeldQuantity, Holding, HoldingRow, Point,
+    PointRow, block_at,
 };
 
 /// The number of a refusal at place 0, and 0 where there is none.
@@ -120,10 +120,7 @@ fn letter_at(weekday: u8, ending: u8) -> u8 {
         ending,
         rent: 0,
     };
-    match Day::new(row) {
-        Ok(day) => block_at(&day).letter(),
-        Err(_) => b' ',
-    }
+    Day::new(row).map_or(b' ', |day| block_at(&day).letter())
 }
 
 #[test]

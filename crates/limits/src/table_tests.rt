@@ -1,5 +1,4 @@
-use payoff::test_tables;
-use refusals::Refusal;
+use payoff::{PlainTables, test_tables};
 use rows::{ConstraintRow, PointRow};
 
 const CONSTRAINT: ConstraintRow = ConstraintRow {
@@ -14,21 +13,17 @@ const POINT: PointRow = PointRow {
     maximum: 1_000_000,
 };
 
-/// A refusal's number and place, and 0 at 0 where there is none.
-fn told(refusal: Option<Refusal>) -> (u8, usize) {
-    match refusal {
-        Some(e) => (e.cause.number(), e.place),
-        None => (0, 0),
+/// What testing tables answers: a refusal's number and place, and 0 at 0 where there is none.
+fn tested(constraints: &[ConstraintRow], points: &[PointRow], factors: &[i16]) -> (u8, usize) {
+    let tables = PlainTables {
+        constraints,
+        points,
+        factors,
+    };
+    match test_tables(&tables) {
+        Ok(_) => (0, 0),
+        Err(e) => (e.cause.number(), e.place),
     }
-}
-
-/// What testing tables answers: a refusal's number and place.
-fn tested<'a>(
-    constraints: &'a [ConstraintRow],
-    points: &'a [PointRow],
-    factors: &'a [i16],
-) -> (u8, usize) {
-    told(test_tables(constraints, points, factors).1)
 }
 
 #[test]
