@@ -1,28 +1,28 @@
 ghost use Rattle.std.specs.Prelude.{◌≡◌, ◌++◌, IfOk, string_bytes, OnOk};
 ghost use Rattle.refusals.specs.Numbers.{told_by, told};
-ghost use Rattle.payoff.specs.Tables.{tables};
+ghost use Rattle.payoff.specs.Plain.{plain_tables};
 ghost use Rattle.payoff.specs.View.{tables_of};
 ghost use Rattle.pricing.specs.Calls.{plain_pricing};
 ghost use Rattle.explanation.specs.Lines.{refused_text, prices_text, amounts_text, answer_text, answer_at, holding_line, lines_from, explanation_of};
 
-use payoff::{Instrument, TestedTables, test_tables};
+use payoff::{Instrument, PlainTables, TestedTables, test_tables};
 use pricing::{Pricing, price_in};
 use refusals::{Cause, Refusal};
-use rows::{ConstraintRow, Holding, HoldingRow, PointRow};
+use rows::{FromRow, Holding, HoldingRow};
 use std::alloc::{AllocError, Global};
 
 /// Appends the four figures and the hedge price.
 fn push_prices(text: &mut String, p: &Pricing) -> Result<(), AllocError>
     ensures { OnOk result (string_bytes text.new ≡ string_bytes text.old ++ prices_text (plain_pricing p.now)) }
 {
-    let quantity = p.quantity.value;
-    let target = p.target_price.value;
-    let deration = p.deration_price.value;
-    let floor = p.floor_price.value;
-    let hedge = p.hedge_price.value;
     write!(
         text,
-        "quantity {quantity} target {target} deration {deration} floor {floor} hedge {hedge}"
+        "quantity {} target {} deration {} floor {} hedge {}",
+        p.quantity.value,
+        p.target_price.value,
+        p.deration_price.value,
+        p.floor_price.value,
+        p.hedge_price.value
     )
 }
 
@@ -30,14 +30,10 @@ fn push_prices(text: &mut String, p: &Pricing) -> Result<(), AllocError>
 fn push_amounts(text: &mut String, p: &Pricing) -> Result<(), AllocError>
     ensures { OnOk result (string_bytes text.new ≡ string_bytes text.old ++ amounts_text (plain_pricing p.now)) }
 {
-    let amount = p.amount.value;
-    let target = p.target.value;
-    let floor = p.floor.value;
-    let derated = p.derated.value;
-    let hedge = p.hedge_value.value;
     write!(
         text,
-        " amount {amount} target amount {target} floor amount {floor} derated amount {derated} hedge value {hedge}"
+        " amount {} target amount {} floor amount {} derated amount {} hedge value {}",
+        p.amount.value, p.target.value, p.floor.value, p.derated.value, p.hedge_value.value
     )
 }
 
@@ -50,10 +46,7 @@ fn push_answer(text: &mut String, answer: &Result<Pricing, Refusal>) -> Result<(
             push_prices(text, p)?;
             push_amounts(text, p)
         }
-        Err(refusal) => {
-            let refusal = *refusal;
-            write!(text, "{refusal}")
-        }
+        Err(refusal) => write!(text, "{refusal}"),
     }
 }
 
@@ -66,13 +59,8 @@ fn answer_at<I: Instrument>(
 ) -> Result<Pricing, Refusal>
     ensures { told_by plain_pricing result ≡ answer_at (I.means instrument.now) (tables_of hour.now) place row.now }
 {
-    match Holding::from_row(row, place) {
-        Ok(holding) => price_in(instrument, hour, &holding, place),
-        Err(_) => Err(Refusal {
-            cause: Cause::BadEntry,
-            place,
-        }),
-    }
+    let holding = Holding::typed(row).ok_or(Cause::BadEntry.at(place))?;
+    price_in(instrument, hour, &holding, place)
 }
 
 /// Appends a holding's line.
@@ -84,10 +72,11 @@ fn push_line(
 ) -> Result<(), AllocError>
     ensures { OnOk result (string_bytes text.new ≡ string_bytes text.old ++ holding_line place row.now (told_by plain_pricing answer.now)) }
 {
-    let letter = row.letter as char;
-    let source = row.source;
-    let sink = row.sink;
-    write!(text, "holding {place} {letter} {source} to {sink}: ")?;
+    write!(
+        text,
+        "holding {place} {} {} to {}: ",
+        row.letter as char, row.source, row.sink
+    )?;
     push_answer(text, answer)?;
     writeln!(text)
 }
@@ -109,21 +98,18 @@ fn push_lines<I: Instrument>(
 }
 
 /// A line for each holding of an hour, under any instrument, or the refusal of the hour's tables.
-pub fn explain_holdings<'a, I: Instrument>(
+pub fn explain_holdings<I: Instrument>(
     heap: Global,
     instrument: &I,
-    constraints: &'a [ConstraintRow],
-    points: &'a [PointRow],
-    factors: &'a [i16],
+    tables: &PlainTables,
     holdings: &[HoldingRow],
 ) -> Result<String, AllocError>
-    ensures { IfOk result (λ s. string_bytes s ≡ explanation_of (I.means instrument.now) (tables constraints.now points.now factors.now) holdings.now) }
+    ensures { IfOk result (λ s. string_bytes s ≡ explanation_of (I.means instrument.now) (plain_tables tables.now) holdings.now) }
 {
     let mut text = String::new(heap);
-    let (hour, refusal) = test_tables(constraints, points, factors);
-    match refusal {
-        Some(refusal) => writeln!(text, "{refusal}")?,
-        None => push_lines(&mut text, instrument, &hour, holdings)?,
+    match test_tables(tables) {
+        Ok(hour) => push_lines(&mut text, instrument, &hour, holdings)?,
+        Err(refusal) => writeln!(text, "{refusal}")?,
     }
     Ok(text)
 }
