@@ -1,11 +1,14 @@
 ghost use Rattle.std.specs.Prelude.{◌≡◌, Ok, Err, MatchResult};
 ghost use Rattle.refusals.specs.Numbers.{told};
 ghost use Rattle.rows.specs.Plain.{plain_day};
+ghost use Rattle.payoff.specs.Tables.{tables};
+ghost use Rattle.payoff.specs.Plain.{plain_tables};
 ghost use Rattle.hours.specs.Read.{tables_in, held_in, no_hour, hour_read};
 
 use crate::blanks::{NO_CONSTRAINT, NO_FACTOR, NO_HOLDING, NO_POINT};
 use crate::hour_tables::HourTables;
 use packages::{Filled, read_package};
+use payoff::PlainTables;
 use refusals::Refusal;
 use rows::{ConstraintRow, Day, HoldingRow, PointRow};
 use units::Cents;
@@ -47,19 +50,14 @@ impl HourTables {
     pub fn read(&mut self, bytes: &[u8]) -> Result<(), Refusal>
         ensures { MatchResult result (λ _. hour_read bytes.now ≡ Ok (tables_in self.new)) (λ e. (hour_read bytes.now ≡ Err (told e)) × (held_in self.new ≡ held_in self.old)) }
     {
-        match read_package(
+        self.found = read_package(
             bytes,
             &mut self.constraints,
             &mut self.points,
             &mut self.factors,
             &mut self.holdings,
-        ) {
-            Ok(found) => {
-                self.found = found;
-                Ok(())
-            }
-            Err(refusal) => Err(refusal),
-        }
+        )?;
+        Ok(())
     }
 
     /// The day row.
@@ -88,6 +86,17 @@ impl HourTables {
         ensures { result.now ≡ (tables_in self.now).factors }
     {
         &self.factors[0..self.found.factors]
+    }
+
+    /// The constraints, points and shift factors.
+    pub fn tables(&self) -> PlainTables<'_>
+        ensures { plain_tables result ≡ tables (tables_in self.now).constraints (tables_in self.now).points (tables_in self.now).factors }
+    {
+        PlainTables {
+            constraints: self.constraints(),
+            points: self.points(),
+            factors: self.factors(),
+        }
     }
 
     /// The holdings.
