@@ -1,25 +1,28 @@
 -- Shift factors, two bytes at a time.
-use Rattle.std.proofs.Common.{◌≡◌, ℕ, suc, ◌+◌, ◌-◌, ◌*◌, ◌/◌, ◌%◌, ◌<◌, ◌≤◌, Bool, true, false, ◌&&◌, List, [], ◌∷◌, ◌++◌, length, get_or, take, drop, set, ℤ, pos, negsuc, sym, refl, ap, ◌∙◌, append_assoc, append-nil, arith, length-set, w16, SFits}
-use Rattle.std.proofs.lemmas.List.{take_rest, take_more_set, drop-set-lt, length-take-le, drop-drop, take-append-drop}
+use Rattle.std.proofs.Common.{◌≡◌, ℕ, suc, ◌+◌, ◌*◌, ◌/◌, ◌%◌, ◌<◌, ◌≤◌, Bool, true, false, ◌&&◌, List, [], ◌∷◌, ◌++◌, length, get_or, take, drop, map, set, ℤ, pos, negsuc, sym, refl, ap, ◌∙◌, append_assoc, append-nil, add-one, arith, length-set, drop-cons, w16, SFits}
+use Rattle.std.specs.Simd.{first_chunks}
+use Rattle.std.proofs.lemmas.List.{take_more_set, drop-set-lt, length-take-le, drop-drop, take-append-drop}
 use Rattle.std.proofs.lemmas.Bool.Decides.{nat_tests}
 use Rattle.rows.specs.Ranges.{factor_ok}
 use Rattle.codec.specs.Bytes.{Bytes, int2}
 use Rattle.codec.specs.Records.{every, factors_at, encode_factors}
 use Rattle.codec.proofs.Trips.{int2_twos2, twos2_int2}
 
-front : (bs : List ℕ) → 2 ≤ length bs → factors_at bs ≡ int2 (get_or bs 0 0) (get_or bs 1 0) ∷ factors_at (drop 2 bs)
-front [] h = absurd (omega arith)
-front (a ∷ []) h = absurd (omega arith)
-front (a ∷ b ∷ bs) h = refl
+abbrev pub factor_of : List ℕ → ℤ
+factor_of pair = int2 (get_or pair 0 0) (get_or pair 1 0)
 
--- by what a slice pattern shows of the bytes
-pub factors_step : (bs : List ℕ) → 2 ≤ length bs → factors_at bs ≡ int2 (get_or bs 0 0) (get_or bs 1 0) ∷ factors_at (take (length bs - 2) (drop 2 bs))
-factors_step bs h = front bs h ∙ ap (λ ys. int2 (get_or bs 0 0) (get_or bs 1 0) ∷ factors_at ys) (sym (take_rest bs 2))
+-- by the pairs that the bytes are cut into
+pub factors_pairs : (bs : List ℕ) → factors_at bs ≡ map factor_of (first_chunks 2 (length bs / 2) bs)
+factors_pairs [] = refl
+factors_pairs (a ∷ []) = refl
+factors_pairs (a ∷ b ∷ bs) =
+    let n : length (a ∷ b ∷ bs) / 2 ≡ suc (length bs / 2) = omega arith in
+    let i = factors_pairs bs in
+    rw n (ap (λ zs. int2 a b ∷ zs) i)
 
-pub factors_end : (bs : List ℕ) → length bs < 2 → factors_at bs ≡ []
-factors_end [] h = refl
-factors_end (a ∷ []) h = refl
-factors_end (a ∷ b ∷ bs) h = absurd (omega arith)
+-- one more pair
+pub next_pair : (pairs : List (List ℕ)) (i : ℕ) → i < length pairs → map factor_of (drop i pairs) ≡ factor_of (get_or pairs i []) ∷ map factor_of (drop (i + 1) pairs)
+next_pair pairs i h = rw (add-one, drop-cons pairs i []) refl
 
 -- the tests of the entries so far, with those of the entries that are left
 pub more_sound : (all b : Bool) (zs : List ℤ) (z : ℤ) (rest : List ℤ) (whole : Bool) → zs ≡ z ∷ rest → factor_ok z ≡ b → whole ≡ (all && every factor_ok zs) → whole ≡ ((all && b) && every factor_ok rest)

@@ -62,9 +62,16 @@ every p (x ∷ xs) = p x && every p xs
 abbrev pub sized : {X : Type 0} → ℕ → (List ℕ → X) → List ℕ → Option X
 sized n at bs = cond (length bs == n) (Some (at bs)) None
 
+-- the same, where several lengths may be those of the kind
+abbrev pub row_of : {X : Type 0} → (ℕ → Bool) → (List ℕ → X) → List ℕ → Option X
+row_of is_len at bs = cond (is_len (length bs)) (Some (at bs)) None
+
 -- what reading the fields of record p answers: 3 where their length is not n, 6 where the row is out of range
 abbrev pub decoded : {X : Type 0} → ℕ → ℕ → (X → Bool) → (List ℕ → X) → List ℕ → Result X Told
 decoded p n ok at bs = cond (length bs == n) (cond (ok (at bs)) (Ok (at bs)) (Err (refused_at 6 p))) (Err (refused_at 3 p))
+
+abbrev pub decode_row : {X : Type 0} → (ℕ → Bool) → (X → Bool) → (List ℕ → X) → ℕ → List ℕ → Result X Told
+decode_row is_len ok at p bs = cond (is_len (length bs)) (cond (ok (at bs)) (Ok (at bs)) (Err (refused_at 6 p))) (Err (refused_at 3 p))
 
 abbrev pub decode_day : ℕ → List ℕ → Result DayRow Told
 decode_day p bs = decoded p 12 day_ok day_at bs

@@ -1,28 +1,19 @@
 //! The shift factors of a P record: two bytes for each constraint.
 ghost use Rattle.std.specs.Prelude.{◌≡◌};
 ghost use Rattle.rows.specs.Ranges.{factor_ok};
-ghost use Rattle.codec.specs.Bytes.{int2};
 ghost use Rattle.codec.specs.Records.{every, factors_at, filled};
 
 use rows::Sound;
-
-/// The shift factor of two bytes.
-fn factor_of(a: u8, b: u8) -> i16
-    ensures { result ≡ int2 a b }
-{
-    i16::from_be_bytes([a, b])
-}
 
 /// Whether every shift factor of the bytes is in range. All are tested, even past one that is not: with no way out of
 /// the loop the compiler tests several at once.
 pub(crate) fn factors_sound(bytes: &[u8]) -> bool
     ensures { result ≡ every factor_ok (factors_at bytes.now) }
 {
-    let mut left = bytes;
+    let (pairs, _) = bytes.as_chunks();
     let mut all = true;
-    while let [a, b, rest @ ..] = left {
-        all &= factor_of(*a, *b).sound();
-        left = rest;
+    for pair in pairs {
+        all &= i16::from_be_bytes(*pair).sound();
     }
     all
 }
@@ -31,14 +22,12 @@ pub(crate) fn factors_sound(bytes: &[u8]) -> bool
 pub fn fill_factors(bytes: &[u8], table: &mut [i16])
     ensures { table.new ≡ filled (factors_at bytes.now) table.old }
 {
-    if table.len() < bytes.len() / 2 {
+    let (pairs, _) = bytes.as_chunks();
+    if table.len() < pairs.len() {
         return;
     }
-    let mut left = bytes;
-    let mut n = 0;
-    while let [a, b, rest @ ..] = left {
-        table[n] = factor_of(*a, *b);
-        n += 1;
-        left = rest;
+    // of the cells that a zip lends no proof knows what they come to, so they are counted
+    for (n, pair) in pairs.iter().enumerate() {
+        table[n] = i16::from_be_bytes(*pair);
     }
 }

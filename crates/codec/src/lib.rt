@@ -8,6 +8,6 @@ mod readings;
 mod writings;
 
 pub use factors::fill_factors;
-pub use fields::{constraint_at, holding_at, point_at};
-pub use readings::{read_constraint, read_day, read_holding, read_point};
+pub use fields::Row;
+pub use readings::{read_day, read_point, read_row};
 pub use writings::{constraint_bytes, day_bytes, factor_bytes, holding_bytes, point_bytes};

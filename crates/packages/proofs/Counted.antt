@@ -18,6 +18,12 @@ pub unseen_err : {X Y Z : Type 0} (f : X → Y) (z : Z) (r : Result X Told) (e :
 unseen_err f z (Ok x) e q = refused e (f x) q
 unseen_err f z (Err w) e q = cc
 
+-- a record that is in order and has room is kept as its fields are
+pub admitted : {X Y : Type 0} (p : ℕ) (a b : Bool) (r : Result X Told) (kept : X → Y) → Ok p ≡ admit p a b (Ok p) (λ m. m) → admit p a b r kept ≡ answered kept r
+admitted p true true r kept e = refl
+admitted p true false r kept e = cc
+admitted p false b r kept e = cc
+
 cond_seen : {X Y : Type 0} (g : X → Y) (b : Bool) (x y : Result X Told) → answered g (cond b x y) ≡ cond b (answered g x) (answered g y)
 cond_seen g true x y = refl
 cond_seen g false x y = refl

@@ -1,7 +1,7 @@
 -- The next of records that were written one after the other.
 use Rattle.std.proofs.Common.{◌≡◌, ℕ, zero, suc, ◌+◌, ◌-◌, ◌*◌, ◌<◌, ◌≤◌, true, leb, List, [], ◌∷◌, ◌++◌, length, take, drop, set, ℤ, Some, None, Option, sym, refl, ap, ◌∙◌, append_assoc, append-nil, mul-le-mul_right, suc-mul, arith, length-drop, le-leb}
 use borrow.Rule.Slice.PartMut.{put_mid}
-use Rattle.std.proofs.lemmas.List.{take_more_set, map-append, drop_all, take_rest, length-take-le}
+use Rattle.std.proofs.lemmas.List.{take_more_set, map-append, drop_all, length-take-le}
 use Rattle.std.proofs.lemmas.Slice.{take-put_mid}
 use Rattle.std.specs.List.{AllByRecursion}
 use Rattle.records.specs.Frames.{One, frame_of, framed}
@@ -112,9 +112,8 @@ filled_whole xs t e =
     rw b (ap (λ ys. xs ++ ys) (drop_all (length xs) t (omega arith)) ∙ append-nil xs)
 
 -- a row that is put where it belongs
-pub row_put : (f : List ℕ) (t last done : List ℤ) (a n : ℕ) → last ≡ filled (factors_at (take (length f - 13) (drop 13 f))) (take (a + n - a) (drop a t)) → length (factors_at (drop 13 f)) ≡ n → a + n ≤ length t → take a t ≡ done → take (a + n) (put_mid a (a + n - a) t last) ≡ done ++ factors_at (drop 13 f)
-row_put f t last done a n e l room d =
-    let w = take_rest f 13 in
+pub row_put : (f part : List ℕ) (t last done : List ℤ) (a n : ℕ) → part ≡ drop 13 f → last ≡ filled (factors_at part) (take (a + n - a) (drop a t)) → length (factors_at (drop 13 f)) ≡ n → a + n ≤ length t → take a t ≡ done → take (a + n) (put_mid a (a + n - a) t last) ≡ done ++ factors_at (drop 13 f)
+row_put f part t last done a n w e l room d =
     let s = length-drop a t in
     let m : length (take (a + n - a) (drop a t)) ≡ a + n - a = length-take-le (a + n - a) (drop a t) (omega arith) in
     let q : last ≡ factors_at (drop 13 f) =

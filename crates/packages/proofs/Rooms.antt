@@ -1,7 +1,6 @@
 -- The last test, and the tables after it.
-use Rattle.std.proofs.Common.{◌≡◌, ℕ, ◌-◌, ◌*◌, ◌≤◌, Bool, true, false, cond, ◌&&◌, leb, List, ◌++◌, length, take, drop, Ok, Err, Result, sym, ap, ◌∙◌, subst, arith}
+use Rattle.std.proofs.Common.{◌≡◌, ℕ, ◌*◌, Bool, true, false, cond, ◌&&◌, leb, List, ◌++◌, length, drop, Ok, Err, Result, sym, ap, ◌∙◌, subst}
 use borrow.Rule.Slice.PartMut.{post_of}
-use Rattle.std.proofs.lemmas.List.{length-take-le}
 use Rattle.refusals.specs.Numbers.{Told, refused_at}
 use Rattle.codec.specs.Bytes.{Bytes}
 use Rattle.codec.specs.Records.{answered}
@@ -49,12 +48,6 @@ factor_count bs s b q =
     let n = tested_inv (sizes_ok v.0) (bad_entry v.0) (package_of (hour_of v.0)) (length bs) bs w in
     subst (λ (x : Seen). x.factors ≡ x.points * x.constraints) v.2 (sizes_inv v.0 n.0).3
 
--- a part from the start of a table
-pub front_length : {X : Type 0} (n : ℕ) (w : List X) → n ≤ length w → length (take (n - 0) w) ≡ n
-front_length n w h = length-take-le (n - 0) w (omega arith) ∙ omega arith
-
 -- the table whose front was filled
-pub front_filled : {X : Type 0} (n : ℕ) (rows last w : List X) → last ≡ rows → length rows ≡ n → last ++ post_of 0 (n - 0) w ≡ rows ++ drop (length rows) w
-front_filled n rows last w e l =
-    let m : n - 0 ≡ length rows = omega arith in
-    ap (λ ys. ys ++ post_of 0 (n - 0) w) e ∙ ap (λ k. rows ++ drop k w) m
+pub front_filled : {X : Type 0} (n : ℕ) (rows last w : List X) → last ≡ rows → length rows ≡ n → last ++ post_of 0 n w ≡ rows ++ drop (length rows) w
+front_filled n rows last w e l = ap (λ ys. ys ++ post_of 0 n w) e ∙ ap (λ k. rows ++ drop k w) (sym l)

@@ -7,7 +7,6 @@ mod filled;
 mod filling;
 mod reading;
 mod rest;
-mod row;
 mod testing;
 
 pub use filled::Filled;

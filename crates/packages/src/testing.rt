@@ -22,9 +22,7 @@ fn test_records(bytes: &[u8]) -> Result<Filled, Refusal>
         cause: Cause::RecordOrder,
         place: 0,
     };
-    let Some(first) = reader.next()? else {
-        return Err(no_day);
-    };
+    let first = reader.next()?.ok_or(no_day)?;
     if first.letter != b'D' {
         return Err(no_day);
     }
@@ -50,10 +48,9 @@ pub(crate) fn test_package(bytes: &[u8]) -> Result<Filled, Refusal>
     if bytes.len() > LARGEST {
         return Err(untrue);
     }
-    let [a, b, c, d, version, ..] = bytes else {
-        return Err(untrue);
-    };
-    if u32::from_be_bytes([*a, *b, *c, *d]) as usize != bytes.len() - 4 {
+    let (long, rest) = bytes.split_first_chunk().ok_or(untrue)?;
+    let version = rest.first().ok_or(untrue)?;
+    if u32::from_be_bytes(*long) as usize != bytes.len() - 4 {
         return Err(untrue);
     }
     if *version != 1 {

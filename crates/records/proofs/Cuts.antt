@@ -1,33 +1,9 @@
--- The first record of bytes: by what a slice pattern shows of them, from what was written, and back.
-use Rattle.std.proofs.Common.{◌≡◌, ℕ, suc, ◌+◌, ◌-◌, ◌/◌, ◌%◌, ◌<◌, ◌≤◌, Bool, true, false, leb, List, [], ◌∷◌, ◌++◌, length, get_or, take, drop, sym, refl, ap, ◌∙◌, subst, arith, length-append, le-leb, leb-true}
-use Rattle.std.proofs.lemmas.List.{take_rest, length-take-le, take-append-drop, take_at, drop_at}
+-- The first record of bytes, from what was written, and back.
+use Rattle.std.proofs.Common.{◌≡◌, ℕ, suc, ◌+◌, ◌/◌, ◌%◌, ◌<◌, ◌≤◌, Bool, true, false, leb, List, [], ◌∷◌, ◌++◌, length, take, drop, sym, refl, ap, ◌∙◌, arith, length-append, le-leb, leb-true}
+use Rattle.std.proofs.lemmas.List.{length-take-le, take-append-drop, take_at, drop_at}
 use Rattle.codec.specs.Bytes.{Bytes, be2, num2}
 use Rattle.codec.proofs.Trips.{be2_num2, num2_be2}
 use Rattle.records.specs.Frames.{End, One, frame_of, cut, lettered, framed}
-
-lettered_one : (body after : List ℕ) → 1 ≤ length body → lettered body after ≡ One (get_or body 0 0) (drop 1 body) after
-lettered_one [] after h = absurd (omega arith)
-lettered_one (x ∷ xs) after h = refl
-
-cut_true : (b : Bool) (n : ℕ) (rest : List ℕ) → b ≡ true → cut b n rest ≡ lettered (take n rest) (drop n rest)
-cut_true true n rest h = refl
-cut_true false n rest h = cc
-
-frame_cut : (bs : List ℕ) → 2 ≤ length bs → frame_of bs ≡ cut (leb (num2 (get_or bs 0 0) (get_or bs 1 0)) (length (drop 2 bs))) (num2 (get_or bs 0 0) (get_or bs 1 0)) (drop 2 bs)
-frame_cut [] h = absurd (omega arith)
-frame_cut (x ∷ []) h = absurd (omega arith)
-frame_cut (x ∷ y ∷ xs) h = refl
-
-pub frame_one : (bs : List ℕ) (n : ℕ) (body after : List ℕ) → 2 ≤ length bs → n ≡ num2 (get_or bs 0 0) (get_or bs 1 0) → n ≤ length (take (length bs - 2) (drop 2 bs)) → body ≡ take n (take (length bs - 2) (drop 2 bs)) → after ≡ drop n (take (length bs - 2) (drop 2 bs)) → 1 ≤ length body → frame_of bs ≡ One (get_or body 0 0) (take (length body - 1) (drop 1 body)) after
-frame_one bs n body after two e le eb ea one =
-    let w = take_rest bs 2 in
-    let p = frame_cut bs two in
-    let le2 : n ≤ length (drop 2 bs) = subst (λ (xs : List ℕ). n ≤ length xs) w le in
-    let q : leb n (length (drop 2 bs)) ≡ true = le-leb n (length (drop 2 bs)) le2 in
-    let r = cut_true (leb n (length (drop 2 bs))) n (drop 2 bs) q in
-    let s = lettered_one body after one in
-    let t = take_rest body 1 in
-    cc
 
 lettered_inv : (body a f rest : List ℕ) (l : ℕ) → lettered body a ≡ One l f rest → (body ≡ l ∷ f) × (a ≡ rest)
 lettered_inv [] a f rest l e = let z : ◌≡◌ {A = ℕ} 0 1 = cc in absurd (omega arith)

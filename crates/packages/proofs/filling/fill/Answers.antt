@@ -1,33 +1,24 @@
-use Rattle.std.proofs.Common.{◌<◌, ◌≤◌, ◌++◌, length, sym, ap, ◌∙◌, arith}
-use Rattle.std.proofs.lemmas.List.{take_all, drop_all}
-use Rattle.packages.specs.Filling.{records, rows_of}
+use Rattle.std.proofs.Common.{◌<◌, length, arith}
+use Rattle.codec.specs.Records.{row_of}
 use Rattle.packages.proofs.Nexts.{some_record, some_row, row_stored}
 use Rattle.packages.proofs.filling.fill.Goals as goal
 
-pub returns-in_default : goal.returns-in_default
-returns-in_default g c = λ l ks more e n a.
+pub returns-in_err-next_fields : goal.returns-in_err-next_fields
+returns-in_err-next_fields g c = λ l ks more e n a.
     let i = c.loop-cell.invariant l ks more e n a in
     let lt : c.loop-cell.cell-index < length ks = omega (arith, c.loop-cell.auto.table) in
-    absurd (some_record g.R.Row.row_of l ks more a c.loop-cell.reader.rest.now c.loop-cell.cell-index lt i.0 c.in_default.ensures)
+    absurd (some_record (row_of g.R.Row.is_len g.R.Row.row_at) l ks more a c.loop-cell.reader.rest.now c.loop-cell.cell-index lt i.0 c.in_err-next_fields.ensures)
 
-pub returns-in_default-of : goal.returns-in_default-of
-returns-in_default-of g c = λ l ks more e n a.
+pub returns-in_err-cell : goal.returns-in_err-cell
+returns-in_err-cell g c = λ l ks more e n a.
     let i = c.loop-cell.invariant l ks more e n a in
     let lt : c.loop-cell.cell-index < length ks = omega (arith, c.loop-cell.auto.table) in
-    let f = c.in-Some.ensures in
-    absurd (some_row g.R.Row.row_of l ks more a c.loop-cell.reader.rest.now c.loop-cell.cell-index lt i.0 f.0 c.in-Some.fields.now c.next_fields.new.reader.rest.now f.1 c.in_default-of.ensures)
+    let f = c.in_ok-next_fields.ensures in
+    absurd (some_row (row_of g.R.Row.is_len g.R.Row.row_at) l ks more a c.loop-cell.reader.rest.now c.loop-cell.cell-index lt i.0 f.0 c.in_ok-next_fields.field-0.now c.next_fields.new.reader.rest.now f.1 c.in_err-cell.ensures)
 
 pub loop-cell-preserved : goal.loop-cell-preserved
 loop-cell-preserved g c = λ l ks more e n a.
     let i = c.loop-cell.invariant l ks more e n a in
     let lt : c.loop-cell.cell-index < length ks = omega (arith, c.loop-cell.auto.table) in
-    let f = c.in-Some.ensures in
-    row_stored g.R.Row.row_of l ks more a c.loop-cell.reader.rest.now c.loop-cell.cell-index lt i.0 f.0 c.in-Some.fields.now c.next_fields.new.reader.rest.now c.loop-cell.table c.in-Some-of.found f.1 c.in-Some-of.ensures (omega (arith, c.loop-cell.auto.table)) i.1
-
-pub returns : goal.returns
-returns g c = λ l ks more e n a.
-    let i = c.loop-cell.invariant l ks more e n a in
-    let le : length ks ≤ c.loop-cell.cell-index = omega (arith, c.loop-cell.auto.table) in
-    let le2 : length c.loop-cell.table ≤ c.loop-cell.cell-index = omega (arith, c.loop-cell.auto.table) in
-    let d = drop_all c.loop-cell.cell-index ks le in
-    (sym (take_all c.loop-cell.cell-index c.loop-cell.table le2) ∙ i.1 ∙ ap rows_of (take_all c.loop-cell.cell-index ks le), i.0 ∙ ap (λ ys. records l ys ++ more) d)
+    let f = c.in_ok-next_fields.ensures in
+    row_stored (row_of g.R.Row.is_len g.R.Row.row_at) l ks more a c.loop-cell.reader.rest.now c.loop-cell.cell-index lt i.0 f.0 c.in_ok-next_fields.field-0.now c.next_fields.new.reader.rest.now c.loop-cell.table c.in_ok-cell.field-0 f.1 c.in_ok-cell.ensures (omega (arith, c.loop-cell.auto.table)) i.1

@@ -7,6 +7,5 @@ use Rattle.packages.proofs.filling.fill_rows.Given as goal
 
 abbrev pub invariant-loop-i : goal.invariant-loop-i
 invariant-loop-i l =
-    (l.at ≡ l._i * l.columns)
-    × ((xs : List Placed) (more : List ℕ) → l.initial.reader.rest.now ≡ records_of 80 encode_placed xs ++ more → length xs ≡ l.points → AllByRecursion (IsPlaced l.columns) xs
-    → (l.reader.rest.now ≡ records_of 80 encode_placed (drop l._i xs) ++ more) × (take l.at l.table ≡ factors_of (take l._i xs)))
+    (xs : List Placed) (more : List ℕ) → l.initial.reader.rest.now ≡ records_of 80 encode_placed xs ++ more → length xs ≡ l.points → AllByRecursion (IsPlaced l.columns) xs
+    → (l.reader.rest.now ≡ records_of 80 encode_placed (drop l.i xs) ++ more) × (take (l.i * l.columns) l.table ≡ factors_of (take l.i xs))

@@ -1,4 +1,5 @@
-use Rattle.std.proofs.Common.{◌≡◌, ℕ, ◌-◌, ◌*◌, ◌≤◌, true, false, leb, length, take, Ok, Err, sym, ap, ◌∙◌, rules, leb-true}
+use Rattle.std.proofs.Common.{◌≡◌, ℕ, ◌*◌, ◌≤◌, true, false, leb, length, take, Ok, Err, sym, ap, ◌∙◌, rules, leb-true}
+use Rattle.std.proofs.lemmas.List.{length-take-le}
 use Rattle.refusals.specs.Numbers.{refused_at}
 use Rattle.codec.specs.Bytes.{Bytes}
 use Rattle.codec.specs.Records.{answered}
@@ -6,7 +7,7 @@ use Rattle.codec.proofs.Pairs.{and_left, and_right}
 use Rattle.format.specs.Reading.{reads_tables, reads_into}
 use Rattle.format.proofs.Ways.{read_writes}
 use Rattle.packages.specs.Counting.{Seen, seen_of, seen_in}
-use Rattle.packages.proofs.Rooms.{room, laid_err, laid_ok, room_short, room_good, factor_count, front_length, front_filled}
+use Rattle.packages.proofs.Rooms.{room, laid_err, laid_ok, room_short, room_good, factor_count, front_filled}
 use Rattle.packages.proofs.reading.read_package.Goals as goal
 
 -- what the test of the room says
@@ -37,11 +38,11 @@ fill_tables-requires c =
     let s : Ok (seen_in c.in_ok-found.found) ≡ answered seen_of (reads_tables c.args.bytes.now) = search rules in
     let b : Bytes c.args.bytes.now = λ i. (c.type_inv.bytes i).fits in
     let f = fits (seen_in c.in_ok-found.found) (length c.args.constraints.now) (length c.args.points.now) (length c.args.factors.now) (length c.args.holdings.now) (sym c.if-not-has_room.ensures) in
-    let x = front_length c.in_ok-found.found.factors c.args.factors.now f.2 in
-    let y = front_length c.in_ok-found.found.points c.args.points.now f.1 in
-    let z = front_length c.in_ok-found.found.constraints c.args.constraints.now f.0 in
+    let x = length-take-le c.in_ok-found.found.factors c.args.factors.now f.2 in
+    let y = length-take-le c.in_ok-found.found.points c.args.points.now f.1 in
+    let z = length-take-le c.in_ok-found.found.constraints c.args.constraints.now f.0 in
     x ∙ factor_count c.args.bytes.now (seen_in c.in_ok-found.found) b s
-    ∙ ap (λ m. m * c.in_ok-found.found.constraints) (sym y) ∙ ap (λ m. length (take (c.in_ok-found.found.points - 0) c.args.points.now) * m) (sym z)
+    ∙ ap (λ m. m * c.in_ok-found.found.constraints) (sym y) ∙ ap (λ m. length (take c.in_ok-found.found.points c.args.points.now) * m) (sym z)
 
 pub returns : goal.returns
 returns c =
@@ -53,7 +54,7 @@ returns c =
     let lp : length g.0.points ≡ c.in_ok-found.found.points = ap (λ (x : Seen). x.points) g.2 in
     let lf : length g.0.factors ≡ c.in_ok-found.found.factors = ap (λ (x : Seen). x.factors) g.2 in
     let lh : length g.0.holdings ≡ c.in_ok-found.found.holdings = ap (λ (x : Seen). x.holdings) g.2 in
-    let q = c.fill_tables.ensures g.0 g.1 (lc ∙ sym (front_length _ c.args.constraints.now f.0)) (lp ∙ sym (front_length _ c.args.points.now f.1)) (lf ∙ sym (front_length _ c.args.factors.now f.2)) (lh ∙ sym (front_length _ c.args.holdings.now f.3)) in
+    let q = c.fill_tables.ensures g.0 g.1 (lc ∙ sym (length-take-le _ c.args.constraints.now f.0)) (lp ∙ sym (length-take-le _ c.args.points.now f.1)) (lf ∙ sym (length-take-le _ c.args.factors.now f.2)) (lh ∙ sym (length-take-le _ c.args.holdings.now f.3)) in
     record {
       answer = ap (λ (x : Seen). Ok x) (sym g.2) ∙ ap (answered seen_of) (sym g.3);
       constraint_rows = front_filled _ g.0.constraints c.fill_tables.new.constraints c.args.constraints.now q.0 lc ∙ laid_ok _ g.0 (λ t. t.constraints) c.args.constraints.now g.3;

@@ -1,6 +1,0 @@
-use Rattle.std.proofs.Common.{refl}
-use Rattle.std.proofs.lemmas.List.{take_rest}
-use Rattle.records.proofs.reader.Reader.new.Goals as goal
-
-pub returns : goal.returns
-returns c = (take_rest c.args.bytes.now 5, refl)
