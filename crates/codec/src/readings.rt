@@ -7,19 +7,13 @@ ghost use Rattle.codec.specs.Records.{decode_day, decode_row, decode_point, answ
 use crate::factors::factors_sound;
 use crate::fields::Row;
 use refusals::{Cause, Refusal};
-use rows::{Day, DayRow, PointRow, Sound};
-
-fn refused(cause: Cause, place: usize) -> Refusal
-    ensures { (result.cause ≡ cause) × (result.place ≡ place) }
-{
-    Refusal { cause, place }
-}
+use rows::{Day, DayRow, FromRow, PointRow, Sound};
 
 /// The hour of a D record's fields, or refusal 3 or 6 at the record.
 pub fn read_day(fields: &[u8], place: usize) -> Result<Day, Refusal>
     ensures { told_by plain_day result ≡ decode_day place fields.now }
 {
-    let row = DayRow::of(fields).ok_or(refused(Cause::RecordLength, place))?;
+    let row = DayRow::of(fields).ok_or(Cause::RecordLength.at(place))?;
     Day::from_row(&row, place)
 }
 
@@ -27,10 +21,10 @@ pub fn read_day(fields: &[u8], place: usize) -> Result<Day, Refusal>
 pub fn read_row<R: Row + Sound>(fields: &[u8], place: usize) -> Result<R, Refusal>
     ensures { told_by (λ x. x) result ≡ decode_row R.is_len R.ok R.row_at place fields.now }
 {
-    let row = R::of(fields).ok_or(refused(Cause::RecordLength, place))?;
+    let row = R::of(fields).ok_or(Cause::RecordLength.at(place))?;
     row.sound()
         .then_some(row)
-        .ok_or(refused(Cause::OutOfRange, place))
+        .ok_or(Cause::OutOfRange.at(place))
 }
 
 /// Whether a P record's fields are so long, in an hour of so many constraints.
@@ -46,11 +40,11 @@ pub fn read_point(fields: &[u8], constraints: usize, place: usize) -> Result<Poi
     ensures { told_by (λ x. x) result ≡ answered (λ x. x.point) (decode_point place constraints fields.now) }
 {
     if !point_sized(fields.len(), constraints) {
-        return Err(refused(Cause::RecordLength, place));
+        return Err(Cause::RecordLength.at(place));
     }
     let row = read_row(fields, place)?;
     if !factors_sound(&fields[13..]) {
-        return Err(refused(Cause::OutOfRange, place));
+        return Err(Cause::OutOfRange.at(place));
     }
     Ok(row)
 }
