@@ -10,13 +10,10 @@ impl TextLine for RollLine {
     ghost line = { owner_text };
 
     fn push_line(&self, place: usize, text: &mut String) -> Result<(), AllocError> {
-        let credit = self.credit.value;
-        let charge = self.charge.value;
-        let short = self.short.value;
-        let refund = self.refund.value;
         writeln!(
             text,
-            "owner {place} credit {credit} charge {charge} shortfall charge {short} refund {refund}"
+            "owner {place} credit {} charge {} shortfall charge {} refund {}",
+            self.credit.value, self.charge.value, self.short.value, self.refund.value
         )
     }
 }
@@ -26,12 +23,10 @@ impl TextLine for HourLine {
     ghost line = { owner_hour_text };
 
     fn push_line(&self, place: usize, text: &mut String) -> Result<(), AllocError> {
-        let credit = self.credit.value;
-        let charge = self.charge.value;
-        let short = self.short.value;
         writeln!(
             text,
-            "owner {place} credit {credit} charge {charge} shortfall charge {short}"
+            "owner {place} credit {} charge {} shortfall charge {}",
+            self.credit.value, self.charge.value, self.short.value
         )
     }
 }
@@ -41,8 +36,10 @@ impl TextLine for LoadLine {
     ghost line = { load_text };
 
     fn push_line(&self, place: usize, text: &mut String) -> Result<(), AllocError> {
-        let mwh = self.mwh;
-        let paid = self.paid.value;
-        writeln!(text, "load {place} mwh {mwh} payment {paid}")
+        writeln!(
+            text,
+            "load {place} mwh {} payment {}",
+            self.mwh, self.paid.value
+        )
     }
 }
