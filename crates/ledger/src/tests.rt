@@ -11,18 +11,14 @@ use units::Cents;
 pub fn positive_cents(cents: &Cents) -> u64
     ensures { result ≡ positive cents.now.value }
 {
-    if cents.value < 0 {
-        0
-    } else {
-        cents.value as u64
-    }
+    cents.value.max(0) as u64
 }
 
 /// Whether a figure is not negative and not above a total.
 pub fn is_within(cents: &Cents, total: u64) -> bool
     ensures { result ≡ within total cents.now }
 {
-    cents.value >= 0 && cents.value as u64 <= total
+    cents.value >= 0 && positive_cents(cents) <= total
 }
 
 impl Sound for LoadLine {
