@@ -105,7 +105,7 @@ impl OpenMonth {
             amount: NOTHING,
         };
         let mut table = [none; 1024];
-        let admitted = self.admit(
+        let sums = self.admit(
             roll,
             day,
             constraints,
@@ -116,11 +116,7 @@ impl OpenMonth {
             sheet,
             amounts,
             &mut table,
-        );
-        let sums = match admitted {
-            Ok(sums) => sums,
-            Err(refusal) => return Err(refusal),
-        };
+        )?;
         write_hour(&table[0..holdings.len()], &sums, roll, sheet, amounts);
         self.enter(day.hour, day.rent.value as u64, &sums);
         Ok(answer(day.rent, &sums, self.balance))

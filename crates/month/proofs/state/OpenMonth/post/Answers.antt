@@ -10,17 +10,17 @@ use Rattle.month.proofs.state.OpenMonth.post.Goals as goal
 
 pub slice_bounds-write_hour-end : goal.slice_bounds-write_hour-end
 slice_bounds-write_hour-end g c =
-    let few = (ok _ _ _ _ _ c.in-Ok.ensures).few in
-    omega (arith, few, c.admit-admitted.auto.dues)
+    let few = (ok _ _ _ _ _ c.in_ok-sums.ensures).few in
+    omega (arith, few, c.admit.auto.dues)
 
 pub write_hour-requires : goal.write_hour-requires
 write_hour-requires g c =
     let f = of_open c.args.self.now in
     let roll = c.args.roll.now in
     let p = posting_of (g.I.Instrument.means c.args.instrument.now) (plain_day c.args.day.now) (tables c.args.constraints.now c.args.points.now c.args.factors.now) c.args.holdings.now c.args.sheet.now c.args.amounts.now in
-    let s = c.in-Ok.sums in
-    let table = c.admit-admitted.new.dues in
-    let a = c.in-Ok.ensures in
+    let s = c.in_ok-sums.sums in
+    let table = c.admit.new.dues in
+    let a = c.in_ok-sums.ensures in
     record {
       owners = owners_ready f roll p s table a;
       lines = ((ok f roll p s table a).lines, amounts_ready f roll p s table a);
@@ -34,9 +34,9 @@ enter-requires g c =
     let f = of_open c.args.self.now in
     let roll = c.args.roll.now in
     let p = posting_of (g.I.Instrument.means c.args.instrument.now) (plain_day c.args.day.now) (tables c.args.constraints.now c.args.points.now c.args.factors.now) c.args.holdings.now c.args.sheet.now c.args.amounts.now in
-    let s = c.in-Ok.sums in
-    let table = c.admit-admitted.new.dues in
-    let a = c.in-Ok.ensures in
+    let s = c.in_ok-sums.sums in
+    let table = c.admit.new.dues in
+    let a = c.in_ok-sums.ensures in
     let rent = nat_abs (to_z w64 (of_z w64 c.args.day.now.rent.value)) in
     let r : rent ≡ nat_abs c.args.day.now.rent.value = omega (arith, ints) in
     record {
@@ -51,9 +51,9 @@ answer-requires g c =
     let f = of_open c.args.self.now in
     let roll = c.args.roll.now in
     let p = posting_of (g.I.Instrument.means c.args.instrument.now) (plain_day c.args.day.now) (tables c.args.constraints.now c.args.points.now c.args.factors.now) c.args.holdings.now c.args.sheet.now c.args.amounts.now in
-    let s = c.in-Ok.sums in
-    let table = c.admit-admitted.new.dues in
-    let a = c.in-Ok.ensures in
+    let s = c.in_ok-sums.sums in
+    let table = c.admit.new.dues in
+    let a = c.in_ok-sums.ensures in
     let m = month_ready f roll p s table a in
     ((limits_ready f roll p s table a).0, (omega (arith, a.sums.charges_is, (ok f roll p s table a).charge), (omega (arith, m.0), omega (arith, m.1, ap (λ h. h.balance) c.enter.ensures))))
 
@@ -62,9 +62,9 @@ returns g c =
     let f = of_open c.args.self.now in
     let roll = c.args.roll.now in
     let p = posting_of (g.I.Instrument.means c.args.instrument.now) (plain_day c.args.day.now) (tables c.args.constraints.now c.args.points.now c.args.factors.now) c.args.holdings.now c.args.sheet.now c.args.amounts.now in
-    let s = c.in-Ok.sums in
-    let table = c.admit-admitted.new.dues in
-    let a = c.in-Ok.ensures in
+    let s = c.in_ok-sums.sums in
+    let table = c.admit.new.dues in
+    let a = c.in_ok-sums.ensures in
     let rent = nat_abs (to_z w64 (of_z w64 c.args.day.now.rent.value)) in
     let r : rent ≡ nat_abs c.args.day.now.rent.value = omega (arith, ints) in
     record {
