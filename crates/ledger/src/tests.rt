@@ -1,4 +1,4 @@
-ghost use Rattle.std.specs.Prelude.{◌≡◌};
+ghost use Rattle.std.specs.Prelude.{◌≡◌, ◌^◌, ◌<◌};
 ghost use Rattle.units.specs.Parts.{positive};
 ghost use Rattle.ledger.specs.Figures.{within};
 ghost use Rattle.ledger.specs.Calls.{load_ok};
@@ -9,7 +9,8 @@ use units::Cents;
 
 /// The larger of 0 and a sum of money.
 pub fn positive_cents(cents: &Cents) -> u64
-    ensures { result ≡ positive cents.now.value }
+    ensures value { result ≡ positive cents.now.value }
+    ensures bound { result < 2 ^ 63 }
 {
     cents.value.max(0) as u64
 }

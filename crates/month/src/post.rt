@@ -11,11 +11,11 @@ ghost use Rattle.month.specs.Months.{of_open};
 ghost use Rattle.month.specs.Hours.{RoomyRoll};
 ghost use Rattle.month.specs.Sums.{sheet_line, rolled_line, entered, answered};
 
-use crate::hour::{NOTHING, add_sheet, write_amounts};
+use crate::hour::{add_sheet, write_amounts};
 use crate::sheet::fill_sheet;
 use crate::state::OpenMonth;
 use crate::sums::HourSums;
-use ledger::{Due, HourAnswer, HourLine, RollLine};
+use ledger::{Due, HourAnswer, HourLine, NOTHING, RollLine};
 use payoff::Instrument;
 use refusals::Refusal;
 use rows::{ConstraintRow, Day, HoldingRow, PointRow};
