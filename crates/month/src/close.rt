@@ -1,12 +1,10 @@
 ghost use Rattle.std.specs.Prelude.{◌≡◌, Some, None, MatchResult};
 ghost use Rattle.refusals.specs.Numbers.{told};
-ghost use Rattle.ledger.specs.Figures.{tied};
 ghost use Rattle.ledger.specs.Calls.{loads_test, close_test, after_close, CloseAccepted, CloseRefused};
 ghost use Rattle.month.specs.Months.{of_refunded, of_closed};
 
 use crate::state::{ClosedMonth, RefundedMonth};
 use crate::tables::load_total;
-use crate::totals::{Totals, ties};
 use ledger::{LoadLine, RollLine};
 use refusals::{Cause, Refusal};
 use rows::first_bad;
@@ -16,67 +14,35 @@ fn test_loads(loads: &[LoadLine]) -> Result<(), Refusal>
     ensures { MatchResult result (λ _. loads_test loads.now ≡ None) (λ e. loads_test loads.now ≡ Some (told e)) }
 {
     if loads.len() > 64 {
-        return Err(Refusal {
-            cause: Cause::LoadLine,
-            place: 0,
-        });
+        return Err(Cause::LoadLine.at(0));
     }
     if let Some(place) = first_bad(loads) {
-        return Err(Refusal {
-            cause: Cause::LoadLine,
-            place,
-        });
+        return Err(Cause::LoadLine.at(place));
     }
     Ok(())
 }
 
 impl RefundedMonth {
-    /// Whether the roll is this month's.
-    fn holds(&self, roll: &[RollLine]) -> bool
-        ensures { result ≡ tied (of_refunded self.now) roll.now }
-    {
-        let totals = Totals {
-            owners: self.owners,
-            credits: self.credits,
-            charges: self.charges,
-            shorts: self.shorts,
-            refunds: self.refunds,
-        };
-        ties(&totals, roll)
-    }
-
     /// Tests that the month may be closed: its roll, the load lines, and a load for what is left.
     fn test_close(&self, roll: &[RollLine], loads: &[LoadLine]) -> Result<(), Refusal>
         ensures { MatchResult result (λ _. close_test (of_refunded self.now) roll.now loads.now ≡ None) (λ e. close_test (of_refunded self.now) roll.now loads.now ≡ Some (told e)) }
     {
-        if !self.holds(roll) {
-            return Err(Refusal {
-                cause: Cause::RollMismatch,
-                place: 0,
-            });
+        if !self.books.holds(self.refunds, roll) {
+            return Err(Cause::RollMismatch.at(0));
         }
         test_loads(loads)?;
         if self.balance > 0 && load_total(loads) == 0 {
-            return Err(Refusal {
-                cause: Cause::NoLoad,
-                place: 0,
-            });
+            return Err(Cause::NoLoad.at(0));
         }
         Ok(())
     }
 
     /// The month once its rest has gone to the loads.
-    fn paid_out(&self) -> ClosedMonth
-        ensures { of_closed result ≡ after_close (of_refunded self.now) }
+    fn paid_out(self) -> ClosedMonth
+        ensures { of_closed result ≡ after_close (of_refunded self) }
     {
         ClosedMonth {
-            owners: self.owners,
-            hours: self.hours,
-            last: self.last,
-            rents: self.rents,
-            credits: self.credits,
-            charges: self.charges,
-            shorts: self.shorts,
+            books: self.books,
             refunds: self.refunds,
             payments: self.balance,
         }

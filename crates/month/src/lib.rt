@@ -3,19 +3,21 @@
 #![tactic(auto)]
 
 mod admit;
+mod books;
 mod close;
 mod closed;
 mod dues;
 mod hour;
+mod hour_sums;
 mod opening;
 mod post;
 mod refund;
+mod roll;
 mod sheet;
 mod state;
 mod sums;
 mod tables;
 mod told;
-mod totals;
 
 pub use opening::open;
 pub use state::{ClosedMonth, OpenMonth, RefundedMonth};

@@ -4,6 +4,7 @@ ghost use Rattle.ledger.specs.Calls.{OpenAccepted, OpenRefused};
 ghost use Rattle.ledger.specs.Runs.{Stands};
 ghost use Rattle.month.specs.Months.{of_open};
 
+use crate::books::Books;
 use crate::state::OpenMonth;
 use ledger::{CLEAR_ROLL, RollLine};
 use refusals::{Cause, Refusal};
@@ -17,20 +18,19 @@ pub fn open(roll: &mut [RollLine]) -> Result<OpenMonth, Refusal>
 {
     let owners = roll.len();
     if !(1..=128).contains(&owners) {
-        return Err(Refusal {
-            cause: Cause::RollSize,
-            place: 0,
-        });
+        return Err(Cause::RollSize.at(0));
     }
     roll.fill(CLEAR_ROLL);
     Ok(OpenMonth {
-        owners,
-        hours: 0,
-        last: 0,
-        rents: 0,
-        credits: 0,
-        charges: 0,
-        shorts: 0,
+        books: Books {
+            owners,
+            hours: 0,
+            last: 0,
+            rents: 0,
+            credits: 0,
+            charges: 0,
+            shorts: 0,
+        },
         balance: 0,
     })
 }
