@@ -3,6 +3,7 @@ ghost use Rattle.refusals.specs.Numbers.{told};
 ghost use Rattle.ledger.specs.Calls.{loads_test, close_test, after_close, CloseAccepted, CloseRefused};
 ghost use Rattle.month.specs.Months.{of_refunded, of_closed};
 
+use crate::handed_back::HandedBack;
 use crate::state::{ClosedMonth, RefundedMonth};
 use crate::tables::load_total;
 use ledger::{LoadLine, RollLine};
@@ -53,11 +54,14 @@ impl RefundedMonth {
         self,
         roll: &[RollLine],
         loads: &mut [LoadLine],
-    ) -> Result<ClosedMonth, (RefundedMonth, Refusal)>
-        ensures { MatchResult result (λ m. CloseAccepted (of_refunded self) roll.now loads.old (of_closed m) loads.new) (λ back. CloseRefused (of_refunded self) roll.now loads.old (told back.1) (of_refunded back.0) loads.new) }
+    ) -> Result<ClosedMonth, HandedBack<RefundedMonth>>
+        ensures { MatchResult result (λ m. CloseAccepted (of_refunded self) roll.now loads.old (of_closed m) loads.new) (λ back. CloseRefused (of_refunded self) roll.now loads.old (told back.refusal) (of_refunded back.month) loads.new) }
     {
         if let Err(refusal) = self.test_close(roll, loads) {
-            return Err((self, refusal));
+            return Err(HandedBack {
+                month: self,
+                refusal,
+            });
         }
         let total = load_total(loads);
         sharing::share(loads, self.balance, total);

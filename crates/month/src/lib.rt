@@ -7,6 +7,7 @@ mod books;
 mod close;
 mod closed;
 mod dues;
+mod handed_back;
 mod hour;
 mod hour_sums;
 mod opening;
@@ -19,6 +20,7 @@ mod sums;
 mod tables;
 mod told;
 
+pub use handed_back::HandedBack;
 pub use opening::open;
 pub use state::{ClosedMonth, OpenMonth, RefundedMonth};
 pub use told::ClosedFigures;
