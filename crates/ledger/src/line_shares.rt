@@ -7,6 +7,7 @@ use crate::lines::{HourLine, LoadLine, RollLine};
 use crate::tests::positive_cents;
 use sharing::Line;
 
+// each kind of line says which of its figures weighs and which takes the share, and no more than that
 /// An hour's shortfall is shared by credit.
 impl Line for HourLine {
     ghost weight = { λ x. positive x.credit.value };

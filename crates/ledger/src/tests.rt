@@ -1,4 +1,4 @@
-ghost use Rattle.std.specs.Prelude.{◌≡◌};
+ghost use Rattle.std.specs.Prelude.{◌≡◌, ◌^◌, ◌<◌};
 ghost use Rattle.units.specs.Parts.{positive};
 ghost use Rattle.ledger.specs.Figures.{within};
 ghost use Rattle.ledger.specs.Calls.{load_ok};
@@ -9,20 +9,17 @@ use units::Cents;
 
 /// The larger of 0 and a sum of money.
 pub fn positive_cents(cents: &Cents) -> u64
-    ensures { result ≡ positive cents.now.value }
+    ensures value { result ≡ positive cents.now.value }
+    ensures bound { result < 2 ^ 63 }
 {
-    if cents.value < 0 {
-        0
-    } else {
-        cents.value as u64
-    }
+    cents.value.max(0) as u64
 }
 
 /// Whether a figure is not negative and not above a total.
 pub fn is_within(cents: &Cents, total: u64) -> bool
     ensures { result ≡ within total cents.now }
 {
-    cents.value >= 0 && cents.value as u64 <= total
+    cents.value >= 0 && positive_cents(cents) <= total
 }
 
 impl Sound for LoadLine {

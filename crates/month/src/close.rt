@@ -1,85 +1,49 @@
-ghost use Rattle.std.specs.Prelude.{◌≡◌, MatchResult};
-ghost use Rattle.std.specs.Option.{option_map};
+ghost use Rattle.std.specs.Prelude.{◌≡◌, Some, None, MatchResult};
 ghost use Rattle.refusals.specs.Numbers.{told};
-ghost use Rattle.ledger.specs.Figures.{tied};
 ghost use Rattle.ledger.specs.Calls.{loads_test, close_test, after_close, CloseAccepted, CloseRefused};
 ghost use Rattle.month.specs.Months.{of_refunded, of_closed};
 
+use crate::handed_back::HandedBack;
 use crate::state::{ClosedMonth, RefundedMonth};
 use crate::tables::load_total;
-use crate::totals::{Totals, ties};
 use ledger::{LoadLine, RollLine};
 use refusals::{Cause, Refusal};
 use rows::first_bad;
 
-/// The refusal of load lines outside their limits.
-fn loads_refusal(loads: &[LoadLine]) -> Option<Refusal>
-    ensures { option_map told result ≡ loads_test loads.now }
+/// Tests that no load line is outside its limits.
+fn test_loads(loads: &[LoadLine]) -> Result<(), Refusal>
+    ensures { MatchResult result (λ _. loads_test loads.now ≡ None) (λ e. loads_test loads.now ≡ Some (told e)) }
 {
     if loads.len() > 64 {
-        return Some(Refusal {
-            cause: Cause::LoadLine,
-            place: 0,
-        });
+        return Err(Cause::LoadLine.at(0));
     }
-    match first_bad(loads) {
-        Some(place) => Some(Refusal {
-            cause: Cause::LoadLine,
-            place,
-        }),
-        None => None,
+    if let Some(place) = first_bad(loads) {
+        return Err(Cause::LoadLine.at(place));
     }
+    Ok(())
 }
 
 impl RefundedMonth {
-    /// Whether the roll is this month's.
-    fn holds(&self, roll: &[RollLine]) -> bool
-        ensures { result ≡ tied (of_refunded self.now) roll.now }
+    /// Tests that the month may be closed: its roll, the load lines, and a load for what is left.
+    fn test_close(&self, roll: &[RollLine], loads: &[LoadLine]) -> Result<(), Refusal>
+        ensures { MatchResult result (λ _. close_test (of_refunded self.now) roll.now loads.now ≡ None) (λ e. close_test (of_refunded self.now) roll.now loads.now ≡ Some (told e)) }
     {
-        let totals = Totals {
-            owners: self.owners,
-            credits: self.credits,
-            charges: self.charges,
-            shorts: self.shorts,
-            refunds: self.refunds,
-        };
-        ties(&totals, roll)
-    }
-
-    /// The refusal of a close, if any.
-    fn close_refusal(&self, roll: &[RollLine], loads: &[LoadLine]) -> Option<Refusal>
-        ensures { option_map told result ≡ close_test (of_refunded self.now) roll.now loads.now }
-    {
-        if !self.holds(roll) {
-            return Some(Refusal {
-                cause: Cause::RollMismatch,
-                place: 0,
-            });
+        if !self.books.holds(self.refunds, roll) {
+            return Err(Cause::RollMismatch.at(0));
         }
-        if let Some(refusal) = loads_refusal(loads) {
-            return Some(refusal);
-        }
+        test_loads(loads)?;
         if self.balance > 0 && load_total(loads) == 0 {
-            return Some(Refusal {
-                cause: Cause::NoLoad,
-                place: 0,
-            });
+            return Err(Cause::NoLoad.at(0));
         }
-        None
+        Ok(())
     }
 
     /// The month once its rest has gone to the loads.
-    fn paid_out(&self) -> ClosedMonth
-        ensures { of_closed result ≡ after_close (of_refunded self.now) }
+    fn paid_out(self) -> ClosedMonth
+        ensures { of_closed result ≡ after_close (of_refunded self) }
     {
         ClosedMonth {
-            owners: self.owners,
-            hours: self.hours,
-            last: self.last,
-            rents: self.rents,
-            credits: self.credits,
-            charges: self.charges,
-            shorts: self.shorts,
+            books: self.books,
             refunds: self.refunds,
             payments: self.balance,
         }
@@ -90,11 +54,14 @@ impl RefundedMonth {
         self,
         roll: &[RollLine],
         loads: &mut [LoadLine],
-    ) -> Result<ClosedMonth, (RefundedMonth, Refusal)>
-        ensures { MatchResult result (λ m. CloseAccepted (of_refunded self) roll.now loads.old (of_closed m) loads.new) (λ back. CloseRefused (of_refunded self) roll.now loads.old (told back.1) (of_refunded back.0) loads.new) }
+    ) -> Result<ClosedMonth, HandedBack<RefundedMonth>>
+        ensures { MatchResult result (λ m. CloseAccepted (of_refunded self) roll.now loads.old (of_closed m) loads.new) (λ back. CloseRefused (of_refunded self) roll.now loads.old (told back.refusal) (of_refunded back.month) loads.new) }
     {
-        if let Some(refusal) = self.close_refusal(roll, loads) {
-            return Err((self, refusal));
+        if let Err(refusal) = self.test_close(roll, loads) {
+            return Err(HandedBack {
+                month: self,
+                refusal,
+            });
         }
         let total = load_total(loads);
         sharing::share(loads, self.balance, total);

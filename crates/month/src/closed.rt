@@ -9,14 +9,15 @@ impl ClosedMonth {
     pub fn figures(&self) -> ClosedFigures
         ensures { of_told result ≡ of_closed self.now }
     {
+        let books = &self.books;
         ClosedFigures {
-            owners: self.owners,
-            hours: self.hours,
-            last_hour: self.last,
-            rents: self.rents,
-            credits: self.credits,
-            charges: self.charges,
-            shortfall_charges: self.shorts,
+            owners: books.owners,
+            hours: books.hours,
+            last_hour: books.last,
+            rents: books.rents,
+            credits: books.credits,
+            charges: books.charges,
+            shortfall_charges: books.shorts,
             refunds: self.refunds,
             load_payments: self.payments,
         }

@@ -3,20 +3,24 @@
 #![tactic(auto)]
 
 mod admit;
+mod books;
 mod close;
 mod closed;
 mod dues;
+mod handed_back;
 mod hour;
+mod hour_sums;
 mod opening;
 mod post;
 mod refund;
+mod roll;
 mod sheet;
 mod state;
 mod sums;
 mod tables;
 mod told;
-mod totals;
 
+pub use handed_back::HandedBack;
 pub use opening::open;
 pub use state::{ClosedMonth, OpenMonth, RefundedMonth};
 pub use told::ClosedFigures;

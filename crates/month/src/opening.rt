@@ -4,10 +4,9 @@ ghost use Rattle.ledger.specs.Calls.{OpenAccepted, OpenRefused};
 ghost use Rattle.ledger.specs.Runs.{Stands};
 ghost use Rattle.month.specs.Months.{of_open};
 
-use crate::hour::NOTHING;
+use crate::books::Books;
 use crate::state::OpenMonth;
-use crate::tables::fill_all;
-use ledger::RollLine;
+use ledger::{CLEAR_ROLL, RollLine};
 use refusals::{Cause, Refusal};
 
 /// Clears the roll, a line for each owner, and opens its month.
@@ -18,27 +17,20 @@ pub fn open(roll: &mut [RollLine]) -> Result<OpenMonth, Refusal>
     ensures runs { IfOk result (λ m. Stands (length roll.old) (of_open m) roll.new) }
 {
     let owners = roll.len();
-    if owners < 1 || owners > 128 {
-        return Err(Refusal {
-            cause: Cause::RollSize,
-            place: 0,
-        });
+    if !(1..=128).contains(&owners) {
+        return Err(Cause::RollSize.at(0));
     }
-    let clear = RollLine {
-        credit: NOTHING,
-        charge: NOTHING,
-        short: NOTHING,
-        refund: NOTHING,
-    };
-    fill_all(roll, clear);
+    roll.fill(CLEAR_ROLL);
     Ok(OpenMonth {
-        owners,
-        hours: 0,
-        last: 0,
-        rents: 0,
-        credits: 0,
-        charges: 0,
-        shorts: 0,
+        books: Books {
+            owners,
+            hours: 0,
+            last: 0,
+            rents: 0,
+            credits: 0,
+            charges: 0,
+            shorts: 0,
+        },
         balance: 0,
     })
 }

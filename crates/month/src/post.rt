@@ -2,7 +2,7 @@ ghost use Rattle.std.specs.Prelude.{◌≡◌, ◌+◌, ◌<◌, ◌≤◌, ◌+
 ghost use Rattle.std.specs.List.{AllByRecursion};
 ghost use Rattle.refusals.specs.Numbers.{told};
 ghost use Rattle.rows.specs.Plain.{plain_day};
-ghost use Rattle.payoff.specs.Tables.{tables};
+ghost use Rattle.payoff.specs.Plain.{plain_tables};
 ghost use Rattle.sharing.specs.Shares.{limit};
 ghost use Rattle.ledger.specs.Lines.{lines_of};
 ghost use Rattle.ledger.specs.Hour.{credits as all_credits, charges as all_charges};
@@ -11,14 +11,15 @@ ghost use Rattle.month.specs.Months.{of_open};
 ghost use Rattle.month.specs.Hours.{RoomyRoll};
 ghost use Rattle.month.specs.Sums.{sheet_line, rolled_line, entered, answered};
 
-use crate::hour::{NOTHING, add_sheet, write_amounts};
+use crate::books::Books;
+use crate::hour::{add_sheet, write_amounts};
+use crate::hour_sums::HourSums;
 use crate::sheet::fill_sheet;
 use crate::state::OpenMonth;
-use crate::sums::HourSums;
-use ledger::{Due, HourAnswer, HourLine, RollLine};
-use payoff::Instrument;
+use ledger::{Due, HourAnswer, HourLine, NOTHING, RollLine};
+use payoff::{Instrument, PlainTables};
 use refusals::Refusal;
-use rows::{ConstraintRow, Day, HoldingRow, PointRow};
+use rows::{Day, HoldingRow};
 use units::Cents;
 
 /// Writes an hour that was admitted: amounts, hour sheet and roll.
@@ -31,21 +32,20 @@ fn write_hour(
 )
     requires owners { AllByRecursion (λ d. d.owner < length sheet.old) dues.now }
     requires lines { (length sheet.old ≡ length roll.old) × (length dues.now ≤ length amounts.old) }
-    requires sums { (sums.now.credits ≡ all_credits dues.now) × (sums.now.short ≤ sums.now.credits) }
-    requires small { (sums.now.credits ≤ limit) × (all_charges dues.now ≤ limit) }
+    requires sums { (sums.now.credits ≡ all_credits dues.now) × (sums.now.charges ≡ all_charges dues.now) }
     requires roll { AllByRecursion RoomyRoll roll.old }
     ensures amounts { amounts.new ≡ map (λ d. d.amount.value) dues.now ++ drop (length dues.now) amounts.old }
     ensures sheet { sheet.new ≡ lines_of (length roll.old) (sheet_line sums.now.short dues.now) }
     ensures roll { roll.new ≡ lines_of (length roll.old) (rolled_line roll.old sums.now.short dues.now) }
 {
     write_amounts(dues, amounts);
-    fill_sheet(sheet, dues, sums.short, sums.credits);
+    fill_sheet(sheet, dues, sums);
     add_sheet(roll, sheet);
 }
 
 /// What a post answers of an hour.
 fn answer(rent: Cents, sums: &HourSums, balance: u64) -> HourAnswer
-    requires { (sums.now.credits ≤ limit) × ((sums.now.charges ≤ limit) × ((sums.now.short ≤ limit) × (balance ≤ limit))) }
+    requires { balance ≤ limit }
     ensures { result ≡ answered rent sums.now balance }
 {
     HourAnswer {
@@ -68,59 +68,49 @@ fn answer(rent: Cents, sums: &HourSums, balance: u64) -> HourAnswer
 impl OpenMonth {
     /// Enters an hour that was admitted into the month's own figures.
     fn enter(&mut self, hour: u16, rent: u64, sums: &HourSums)
-        requires later { (self.old.last < hour) × (hour ≤ 744) }
-        requires money { (rent ≤ limit) × ((sums.now.credits ≤ limit) × (sums.now.charges ≤ limit)) }
-        requires month { (self.old.shorts + sums.now.short ≤ limit) × (self.old.balance + sums.now.left ≤ limit) }
+        requires later { (self.old.books.last < hour) × (hour ≤ 744) }
+        requires money { rent ≤ limit }
+        requires month { (self.old.books.shorts + sums.now.short ≤ limit) × (self.old.balance + sums.now.left ≤ limit) }
         requires flows { rent + sums.now.charges + sums.now.short ≡ sums.now.credits + sums.now.left }
         ensures { of_open self.new ≡ entered (of_open self.old) hour rent sums.now }
     {
-        self.hours += 1;
-        self.last = hour;
-        self.rents += rent;
-        self.credits += sums.credits;
-        self.charges += sums.charges;
-        self.shorts += sums.short;
-        self.balance += sums.left;
+        *self = OpenMonth {
+            books: Books {
+                owners: self.books.owners,
+                hours: self.books.hours + 1,
+                last: hour,
+                rents: self.books.rents + rent,
+                credits: self.books.credits + sums.credits,
+                charges: self.books.charges + sums.charges,
+                shorts: self.books.shorts + sums.short,
+            },
+            balance: self.balance + sums.left,
+        };
     }
 
     /// Posts an hour under an instrument: writes each holding's amount and each owner's line of the hour sheet, adds
     /// the sheet to the roll, and answers the hour's rent, credits, charges and shortfall and the month's balance.
     /// A refused post changes nothing.
-    pub fn post<'a, I: Instrument>(
+    pub fn post<I: Instrument>(
         &mut self,
         roll: &mut [RollLine],
         day: &Day,
-        constraints: &'a [ConstraintRow],
-        points: &'a [PointRow],
-        factors: &'a [i16],
+        tables: &PlainTables,
         holdings: &[HoldingRow],
         instrument: &I,
         sheet: &mut [HourLine],
         amounts: &mut [i64],
     ) -> Result<HourAnswer, Refusal>
-        ensures { MatchResult result (λ a. PostAccepted (of_open self.old) roll.old (posting_of (I.means instrument.now) (plain_day day.now) (tables constraints.now points.now factors.now) holdings.now sheet.old amounts.old) a (of_open self.new) roll.new sheet.new amounts.new) (λ e. PostRefused (of_open self.old) roll.old (posting_of (I.means instrument.now) (plain_day day.now) (tables constraints.now points.now factors.now) holdings.now sheet.old amounts.old) (told e) (of_open self.new) roll.new sheet.new amounts.new) }
+        ensures { MatchResult result (λ a. PostAccepted (of_open self.old) roll.old (posting_of (I.means instrument.now) (plain_day day.now) (plain_tables tables.now) holdings.now sheet.old amounts.old) a (of_open self.new) roll.new sheet.new amounts.new) (λ e. PostRefused (of_open self.old) roll.old (posting_of (I.means instrument.now) (plain_day day.now) (plain_tables tables.now) holdings.now sheet.old amounts.old) (told e) (of_open self.new) roll.new sheet.new amounts.new) }
     {
         let none = Due {
             owner: 0,
             amount: NOTHING,
         };
         let mut table = [none; 1024];
-        let admitted = self.admit(
-            roll,
-            day,
-            constraints,
-            points,
-            factors,
-            holdings,
-            instrument,
-            sheet,
-            amounts,
-            &mut table,
-        );
-        let sums = match admitted {
-            Ok(sums) => sums,
-            Err(refusal) => return Err(refusal),
-        };
+        let sums = self.admit(
+            roll, day, tables, holdings, instrument, sheet, amounts, &mut table,
+        )?;
         write_hour(&table[0..holdings.len()], &sums, roll, sheet, amounts);
         self.enter(day.hour, day.rent.value as u64, &sums);
         Ok(answer(day.rent, &sums, self.balance))

@@ -6,21 +6,13 @@ ghost use Rattle.month.specs.Months.{of_open};
 ghost use Rattle.month.specs.Sums.{SumsOf};
 
 use crate::hour::sum_up;
+use crate::hour_sums::HourSums;
 use crate::state::OpenMonth;
 use ledger::Due;
 use refusals::{Cause, Refusal};
 
 /// The most that an hour's credits or charges, or a month's balance or total shortfall, may come to, in cents.
 const LIMIT: u64 = 3_000_000_000;
-
-/// An hour's credits, charges, shortfall and balancing credit, within the limit.
-#[derive(Clone, Copy)]
-pub(crate) struct HourSums {
-    pub(crate) credits: u64,
-    pub(crate) charges: u64,
-    pub(crate) short: u64,
-    pub(crate) left: u64,
-}
 
 impl OpenMonth {
     /// The sums of an hour that the month can take, or the refusal: the hour's money first, and then the month's.
@@ -31,20 +23,14 @@ impl OpenMonth {
     {
         let sums = sum_up(dues);
         if sums.credits > LIMIT as u128 || sums.charges > LIMIT as u128 {
-            return Err(Refusal {
-                cause: Cause::HourMoney,
-                place: 0,
-            });
+            return Err(Cause::HourMoney.at(0));
         }
         let credits = sums.credits as u64;
         let charges = sums.charges as u64;
         let short = credits.saturating_sub(rent + charges);
         let left = (rent + charges).saturating_sub(credits);
-        if self.balance + left > LIMIT || self.shorts + short > LIMIT {
-            return Err(Refusal {
-                cause: Cause::MonthMoney,
-                place: 0,
-            });
+        if self.balance + left > LIMIT || self.books.shorts + short > LIMIT {
+            return Err(Cause::MonthMoney.at(0));
         }
         Ok(HourSums {
             credits,

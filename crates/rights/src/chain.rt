@@ -5,37 +5,41 @@ ghost use Rattle.rights.specs.Chains.{bucket_at, Chained};
 use crate::right::{bucket_of, is_same_right};
 use rows::HoldingRow;
 
-/// Whether an earlier holding is the same right as the one at a place: only the chain of its bucket is walked.
-fn is_chained(
-    holdings: &[HoldingRow],
-    heads: &[u16],
-    next: &[u16],
-    place: usize,
-    bucket: usize,
-) -> bool
-    requires inside { (place < length holdings.now) × (place < 1024) }
-    requires own { (bucket ≡ bucket_at holdings.now place) × (bucket < 1024) }
-    requires chained { Chained holdings.now heads.now next.now place }
-    ensures { result ≡ repeated_at holdings.now place }
-{
-    let mut link = heads[bucket] as usize;
-    while link > 0 {
-        if is_same_right(&holdings[link - 1], &holdings[place]) {
-            return true;
-        }
-        link = next[link - 1] as usize;
-    }
-    false
+/// Earlier holdings in chains by bucket. A link is a place counted from 1; 0 ends a chain.
+// no heap is used, and an hour of 1,024 holdings must stay fast: so tables of links, walked by hand
+#[derive(Drop)]
+struct Chains {
+    heads: [u16; 1024],
+    next: [u16; 1024],
 }
 
-/// Puts a place at the head of its bucket's chain.
-fn link_place(heads: &mut [u16], next: &mut [u16], place: usize, bucket: usize)
-    requires { (place < 1024) × ((place < length next.old) × (bucket < length heads.old)) }
-    ensures heads { heads.new ≡ slice_set heads.old bucket (place + 1) }
-    ensures next { next.new ≡ slice_set next.old place (slice_index heads.old bucket) }
-{
-    next[place] = heads[bucket];
-    heads[bucket] = (place + 1) as u16;
+impl Chains {
+    /// Whether an earlier holding is the same right as the one at a place: only the chain of its bucket is walked.
+    fn has_right_at(&self, holdings: &[HoldingRow], place: usize, bucket: usize) -> bool
+        requires inside { (place < length holdings.now) × (place < 1024) }
+        requires own { (bucket ≡ bucket_at holdings.now place) × (bucket < 1024) }
+        requires chained { Chained holdings.now self.now.heads self.now.next place }
+        ensures { result ≡ repeated_at holdings.now place }
+    {
+        let mut link = self.heads[bucket] as usize;
+        while link > 0 {
+            if is_same_right(&holdings[link - 1], &holdings[place]) {
+                return true;
+            }
+            link = self.next[link - 1] as usize;
+        }
+        false
+    }
+
+    /// Puts a place at the head of its bucket's chain.
+    fn link(&mut self, place: usize, bucket: usize)
+        requires { (place < 1024) × (bucket < 1024) }
+        ensures heads { self.new.heads ≡ slice_set self.old.heads bucket (place + 1) }
+        ensures next { self.new.next ≡ slice_set self.old.next place (slice_index self.old.heads bucket) }
+    {
+        self.next[place] = self.heads[bucket];
+        self.heads[bucket] = (place + 1) as u16;
+    }
 }
 
 /// The first place that repeats, by a table of chains: each holding that does not is linked in before the next.
@@ -43,14 +47,16 @@ pub(crate) fn first_chained(holdings: &[HoldingRow]) -> Option<usize>
     requires { length holdings.now ≤ 1024 }
     ensures { FirstRepeat holdings.now result }
 {
-    let mut heads = [0u16; 1024];
-    let mut next = [0u16; 1024];
-    for i in 0..holdings.len() {
-        let bucket = bucket_of(&holdings[i]);
-        if is_chained(holdings, &heads, &next, i, bucket) {
-            return Some(i);
+    let mut chains = Chains {
+        heads: [0; 1024],
+        next: [0; 1024],
+    };
+    for (place, holding) in holdings.iter().enumerate() {
+        let bucket = bucket_of(holding);
+        if chains.has_right_at(holdings, place, bucket) {
+            return Some(place);
         }
-        link_place(&mut heads, &mut next, i, bucket);
+        chains.link(place, bucket);
     }
     None
 }

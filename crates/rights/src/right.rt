@@ -4,11 +4,37 @@ ghost use Rattle.rights.specs.Chains.{bucket_of};
 
 use rows::HoldingRow;
 
+/// Whose right a holding is, of which instrument, and between which points. Holdings alike in these are the same right.
+#[derive(Clone, Copy, PartialEq, Eq)]
+struct Right {
+    owner: u16,
+    letter: u8,
+    source: u16,
+    sink: u16,
+}
+
+impl Right {
+    /// The right that is held.
+    fn of(row: &HoldingRow) -> Right
+        ensures owner { result.owner ≡ row.now.owner }
+        ensures letter { result.letter ≡ row.now.letter }
+        ensures source { result.source ≡ row.now.source }
+        ensures sink { result.sink ≡ row.now.sink }
+    {
+        Right {
+            owner: row.owner,
+            letter: row.letter,
+            source: row.source,
+            sink: row.sink,
+        }
+    }
+}
+
 /// Whether two holdings are the same right.
 pub(crate) fn is_same_right(e: &HoldingRow, h: &HoldingRow) -> bool
     ensures { result ≡ same_right e.now h.now }
 {
-    e.owner == h.owner && e.letter == h.letter && e.source == h.source && e.sink == h.sink
+    Right::of(e) == Right::of(h)
 }
 
 /// 2^64 over the golden ratio: rights that lie close together fall into buckets far apart.

@@ -1,29 +1,24 @@
-ghost use Rattle.std.specs.Prelude.{◌≡◌, ◌<◌, length};
-ghost use Rattle.rights.specs.Rights.{repeated_at, FirstRepeat};
+ghost use Rattle.std.specs.Prelude.{◌≡◌};
+ghost use Rattle.std.specs.List.{list_any};
+ghost use Rattle.rights.specs.Rights.{same_right, FirstRepeat};
 
 use crate::right::is_same_right;
 use rows::HoldingRow;
 
-/// Whether the holding at a place is the same right as an earlier one.
-fn is_repeated(holdings: &[HoldingRow], place: usize) -> bool
-    requires { place < length holdings.now }
-    ensures { result ≡ repeated_at holdings.now place }
+/// Whether one of the earlier holdings is the same right.
+fn is_among(earlier: &[HoldingRow], holding: &HoldingRow) -> bool
+    ensures { result ≡ list_any (λ e. same_right e holding.now) earlier.now }
 {
-    for i in (0..place).rev() {
-        if is_same_right(&holdings[i], &holdings[place]) {
-            return true;
-        }
-    }
-    false
+    earlier.iter().any(|e| is_same_right(e, holding))
 }
 
 /// The first place that repeats, by a search through all earlier holdings of each.
 pub(crate) fn first_searched(holdings: &[HoldingRow]) -> Option<usize>
     ensures { FirstRepeat holdings.now result }
 {
-    for i in 0..holdings.len() {
-        if is_repeated(holdings, i) {
-            return Some(i);
+    for (place, holding) in holdings.iter().enumerate() {
+        if is_among(&holdings[..place], holding) {
+            return Some(place);
         }
     }
     None

@@ -3,7 +3,7 @@ use Rattle.std.specs.List.{AllByRecursion}
 use Rattle.std.proofs.lemmas.List.Sums.{sum_by-drop_more}
 use Rattle.sharing.specs.Shares.{weights_of}
 use Rattle.sharing.proofs.Laws.{fair}
-use Rattle.sharing.proofs.Parts.{part_mono, part_le, up_to_all}
+use Rattle.sharing.proofs.Parts.{part_mono, up_to_all}
 use Rattle.sharing.proofs.Steps.{share_after, shared_from, all_step, drop_after, shared_more, shared_all, shared_out, length_shared}
 use Rattle.sharing.proofs.share.Goals as goal
 
@@ -17,9 +17,8 @@ give-done-requires g c =
     let r = all_step (λ x. (m.had x +ℤ pos c.args.sum) <ℤ pos (2 ^ 63)) c.loop-line.lines c.loop-line.line-index c.line-item.result (omega arith) c.loop-line.invariant.2 in
     let step = sum_by-drop_more m.weight c.loop-line.lines c.loop-line.line-index c.line-item.result (omega arith) in
     record {
-      small = (c.requires.small.0, omega (arith, c.weighs-seen.ensures, step, c.loop-line.invariant.1, c.requires.small));
+      seen = omega (arith, c.weighs-seen.ensures, step, c.loop-line.invariant.1);
       order = omega (arith, c.loop-line.invariant.3, part_mono c.args.sum c.loop-line.seen c.weighs-seen.result c.args.total);
-      whole = part_le c.args.sum (c.loop-line.seen + c.weighs-seen.result) c.args.total (omega (arith, c.weighs-seen.ensures, step, c.loop-line.invariant.1));
       room = r.0;
     }
 

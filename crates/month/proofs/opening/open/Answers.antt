@@ -4,4 +4,5 @@ use Rattle.month.proofs.opening.open.Goals as goal
 
 pub returns : goal.returns
 returns c =
-    record { done = record { tests = search rules; month_after = refl; roll_after = c.fill_all.ensures }; runs = stands (length c.args.roll.now) _ c.fill_all.new.lines refl c.fill_all.ensures }
+    let e = c.fill.ensures.after (λ y same. same) in
+    record { done = record { tests = search rules; month_after = refl; roll_after = e }; runs = stands (length c.args.roll.now) _ c.fill.new.self refl e }

@@ -15,7 +15,7 @@ add_sheet-requires c =
     record {
       lines = ap length c.fill_sheet.ensures ∙ length_lines n (sheet_line s ds) ∙ c.requires.lines.0;
       roll = c.requires.roll;
-      sheet = sheet_roomy n c.fill_sheet.new.sheet ds s c.requires.owners (omega (arith, c.requires.sums, c.requires.small)) c.requires.small.1 (omega (arith, c.requires.sums)) c.fill_sheet.ensures;
+      sheet = sheet_roomy n c.fill_sheet.new.sheet ds s c.requires.owners (omega (arith, c.requires.sums)) (omega (arith, c.requires.sums)) (omega (arith, c.requires.sums)) c.fill_sheet.ensures;
     }
 
 pub returns : goal.returns

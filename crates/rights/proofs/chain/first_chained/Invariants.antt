@@ -2,5 +2,5 @@ use Rattle.rights.specs.Rights.{NoneBelow}
 use Rattle.rights.specs.Chains.{Chained}
 use Rattle.rights.proofs.chain.first_chained.Given as goal
 
-abbrev pub invariant-loop-i : goal.invariant-loop-i
-invariant-loop-i l = NoneBelow l.holdings l.i × Chained l.holdings l.heads l.next l.i
+abbrev pub invariant-loop-place : goal.invariant-loop-place
+invariant-loop-place l = NoneBelow l.holdings l.place × Chained l.holdings l.chains.heads l.chains.next l.place

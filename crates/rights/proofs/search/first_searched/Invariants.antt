@@ -1,5 +1,5 @@
 use Rattle.rights.specs.Rights.{NoneBelow}
 use Rattle.rights.proofs.search.first_searched.Given as goal
 
-abbrev pub invariant-loop-i : goal.invariant-loop-i
-invariant-loop-i l = NoneBelow l.holdings l.i
+abbrev pub invariant-loop-place : goal.invariant-loop-place
+invariant-loop-place l = NoneBelow l.holdings l.place

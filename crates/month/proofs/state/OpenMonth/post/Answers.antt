@@ -1,31 +1,30 @@
 use Rattle.std.proofs.Common.{◌≡◌, nat_abs, ap, ◌∙◌, arith, w64, to_z, of_z}
 use borrow.Author.Differences.{ints}
 use Rattle.rows.specs.Plain.{plain_day}
-use Rattle.payoff.specs.Tables.{tables}
+use Rattle.payoff.specs.Plain.{plain_tables}
 use Rattle.ledger.specs.Posting.{posting_of, dues_of}
 use Rattle.month.specs.Months.{of_open}
 use Rattle.month.proofs.Columns.{tied_true}
-use Rattle.month.proofs.Posts.{roll_roomy, entered_is, answered_is, amounts_are, ok, front, owners_ready, amounts_ready, credits_ready, limits_ready, month_ready, flows, roll_of_hour, sheet_of_hour}
+use Rattle.month.proofs.Posts.{roll_roomy, entered_is, answered_is, amounts_are, ok, front, owners_ready, amounts_ready, sums_ready, month_ready, flows, roll_of_hour, sheet_of_hour}
 use Rattle.month.proofs.state.OpenMonth.post.Goals as goal
 
 pub slice_bounds-write_hour-end : goal.slice_bounds-write_hour-end
 slice_bounds-write_hour-end g c =
-    let few = (ok _ _ _ _ _ c.in-Ok.ensures).few in
-    omega (arith, few, c.admit-admitted.auto.dues)
+    let few = (ok _ _ _ _ _ c.in_ok-sums.ensures).few in
+    omega (arith, few, c.admit.auto.dues)
 
 pub write_hour-requires : goal.write_hour-requires
 write_hour-requires g c =
     let f = of_open c.args.self.now in
     let roll = c.args.roll.now in
-    let p = posting_of (g.I.Instrument.means c.args.instrument.now) (plain_day c.args.day.now) (tables c.args.constraints.now c.args.points.now c.args.factors.now) c.args.holdings.now c.args.sheet.now c.args.amounts.now in
-    let s = c.in-Ok.sums in
-    let table = c.admit-admitted.new.dues in
-    let a = c.in-Ok.ensures in
+    let p = posting_of (g.I.Instrument.means c.args.instrument.now) (plain_day c.args.day.now) (plain_tables c.args.tables.now) c.args.holdings.now c.args.sheet.now c.args.amounts.now in
+    let s = c.in_ok-sums.sums in
+    let table = c.admit.new.dues in
+    let a = c.in_ok-sums.ensures in
     record {
       owners = owners_ready f roll p s table a;
       lines = ((ok f roll p s table a).lines, amounts_ready f roll p s table a);
-      sums = credits_ready f roll p s table a;
-      small = limits_ready f roll p s table a;
+      sums = sums_ready f roll p s table a;
       roll = roll_roomy f roll (tied_true f roll (ok f roll p s table a).ties) (omega arith) (omega arith) (omega arith);
     }
 
@@ -33,15 +32,15 @@ pub enter-requires : goal.enter-requires
 enter-requires g c =
     let f = of_open c.args.self.now in
     let roll = c.args.roll.now in
-    let p = posting_of (g.I.Instrument.means c.args.instrument.now) (plain_day c.args.day.now) (tables c.args.constraints.now c.args.points.now c.args.factors.now) c.args.holdings.now c.args.sheet.now c.args.amounts.now in
-    let s = c.in-Ok.sums in
-    let table = c.admit-admitted.new.dues in
-    let a = c.in-Ok.ensures in
+    let p = posting_of (g.I.Instrument.means c.args.instrument.now) (plain_day c.args.day.now) (plain_tables c.args.tables.now) c.args.holdings.now c.args.sheet.now c.args.amounts.now in
+    let s = c.in_ok-sums.sums in
+    let table = c.admit.new.dues in
+    let a = c.in_ok-sums.ensures in
     let rent = nat_abs (to_z w64 (of_z w64 c.args.day.now.rent.value)) in
     let r : rent ≡ nat_abs c.args.day.now.rent.value = omega (arith, ints) in
     record {
       later = ((ok f roll p s table a).later, c.args.day.now.last_hour);
-      money = (omega (arith, ints), ((limits_ready f roll p s table a).0, omega (arith, a.sums.charges_is, (ok f roll p s table a).charge)));
+      money = omega (arith, ints);
       month = month_ready f roll p s table a;
       flows = flows f roll p s table a rent r;
     }
@@ -50,21 +49,20 @@ pub answer-requires : goal.answer-requires
 answer-requires g c =
     let f = of_open c.args.self.now in
     let roll = c.args.roll.now in
-    let p = posting_of (g.I.Instrument.means c.args.instrument.now) (plain_day c.args.day.now) (tables c.args.constraints.now c.args.points.now c.args.factors.now) c.args.holdings.now c.args.sheet.now c.args.amounts.now in
-    let s = c.in-Ok.sums in
-    let table = c.admit-admitted.new.dues in
-    let a = c.in-Ok.ensures in
-    let m = month_ready f roll p s table a in
-    ((limits_ready f roll p s table a).0, (omega (arith, a.sums.charges_is, (ok f roll p s table a).charge), (omega (arith, m.0), omega (arith, m.1, ap (λ h. h.balance) c.enter.ensures))))
+    let p = posting_of (g.I.Instrument.means c.args.instrument.now) (plain_day c.args.day.now) (plain_tables c.args.tables.now) c.args.holdings.now c.args.sheet.now c.args.amounts.now in
+    let s = c.in_ok-sums.sums in
+    let table = c.admit.new.dues in
+    let a = c.in_ok-sums.ensures in
+    omega (arith, (month_ready f roll p s table a).1, ap (λ h. h.balance) c.enter.ensures)
 
 pub returns : goal.returns
 returns g c =
     let f = of_open c.args.self.now in
     let roll = c.args.roll.now in
-    let p = posting_of (g.I.Instrument.means c.args.instrument.now) (plain_day c.args.day.now) (tables c.args.constraints.now c.args.points.now c.args.factors.now) c.args.holdings.now c.args.sheet.now c.args.amounts.now in
-    let s = c.in-Ok.sums in
-    let table = c.admit-admitted.new.dues in
-    let a = c.in-Ok.ensures in
+    let p = posting_of (g.I.Instrument.means c.args.instrument.now) (plain_day c.args.day.now) (plain_tables c.args.tables.now) c.args.holdings.now c.args.sheet.now c.args.amounts.now in
+    let s = c.in_ok-sums.sums in
+    let table = c.admit.new.dues in
+    let a = c.in_ok-sums.ensures in
     let rent = nat_abs (to_z w64 (of_z w64 c.args.day.now.rent.value)) in
     let r : rent ≡ nat_abs c.args.day.now.rent.value = omega (arith, ints) in
     record {

@@ -16,7 +16,7 @@ pub share-requires : goal.share-requires
 share-requires c =
     let f = of_open c.args.self in
     let roll = c.args.roll.now in
-    let t = tied_true f roll (sym c.if-not-holds.ensures) in
+    let t = tied_true f roll (sym (c.if-not-holds.ensures _ _)) in
     let s = c.refund_sum-refunds.result in
     record {
       small = (omega arith, omega arith);
@@ -31,7 +31,7 @@ returns c =
     let roll = c.args.roll.now in
     let k : c.refund_sum-refunds.result ≡ _ = c.refund_sum-refunds.ensures in
     record {
-      tests = ap (λ b. cond b None (Some (refused_at 22 0))) (sym c.if-not-holds.ensures);
+      tests = ap (λ b. cond b None (Some (refused_at 22 0))) (sym (c.if-not-holds.ensures _ _));
       month_after = refund_figures f c.refund_sum-refunds.result k refl;
       roll_after = by_rule clear_roll roll c.share.new.lines (refunded_line f roll) c.share.ensures.kept (λ i h. c.share.ensures.shared clear_roll i h ∙ ap (λ (n : ℕ). refunded (get_or roll i clear_roll) (share_of n f.shorts (short_in roll) i)) k);
     }

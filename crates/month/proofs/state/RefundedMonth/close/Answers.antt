@@ -13,7 +13,7 @@ pub share-requires : goal.share-requires
 share-requires c =
     let f = of_refunded c.args.self in
     let loads = c.args.loads.now in
-    let p = closable f c.args.roll.now loads (sym c.in_default.ensures) in
+    let p = closable f c.args.roll.now loads c.in_default.ensures in
     let rest = c.args.self.balance in
     record {
       small = (omega arith, omega (arith, c.load_total-total.ensures, load_le loads p.sound, p.few));
@@ -27,7 +27,7 @@ returns c =
     let f = of_refunded c.args.self in
     let loads = c.args.loads.now in
     record {
-      tests = sym c.in_default.ensures;
+      tests = c.in_default.ensures;
       month_after = c.paid_out.ensures;
       loads_after = by_rule clear_load loads c.share.new.lines (paid_line f.balance loads) c.share.ensures.kept (λ i h. c.share.ensures.shared clear_load i h ∙ ap (λ (n : ℕ). paid_out (get_or loads i clear_load) (share_of f.balance n (mwh_in loads) i)) c.load_total-total.ensures);
     }

@@ -1,5 +1,5 @@
 use Rattle.rights.proofs.Walks.{ChainWalk}
-use Rattle.rights.proofs.chain.is_chained.Given as goal
+use Rattle.rights.proofs.chain.Chains.has_right_at.Given as goal
 
 abbrev pub invariant-loop-link : goal.invariant-loop-link
 invariant-loop-link l = ChainWalk l.holdings l.place l.link

@@ -2,7 +2,7 @@ use Rattle.std.proofs.Common.{◌≡◌, suc, ◌-◌, ◌<◌, sym, arith}
 use Rattle.rights.specs.Chains.{bucket_at}
 use Rattle.rights.proofs.Buckets.{last_within}
 use Rattle.rights.proofs.Walks.{walk_start, walk_on, walk_found, to_last}
-use Rattle.rights.proofs.chain.is_chained.Goals as goal
+use Rattle.rights.proofs.chain.Chains.has_right_at.Goals as goal
 
 pub loop-link-init : goal.loop-link-init
 loop-link-init c =
