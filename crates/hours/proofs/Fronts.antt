@@ -1,6 +1,5 @@
 -- What stands at the front of tables that were filled from a package.
 use Rattle.std.proofs.Common.{◌≡◌, ℕ, ◌-◌, List, ◌++◌, length, take, ℤ, Ok, Err, Result, sym, ap, ◌∙◌, arith}
-use native.Mathlib.Nat.{sub-zero}
 use Rattle.std.proofs.lemmas.List.{take_at}
 use Rattle.refusals.specs.Numbers.{Told}
 use Rattle.rows.specs.declared.plain.ConstraintRow.{ConstraintRow}
@@ -40,9 +39,9 @@ unfolding hour_read
 largest bs cs ps fs hs c p f h = rw (c, p, f, h)
 
 -- a caller with tables of its own, which takes their fronts
-pub read_slices : (bs : List ℕ) (s : Seen) (cs cs' : List ConstraintRow) (ps ps' : List PointRow) (fs fs' : List ℤ) (hs hs' : List HoldingRow) → Ok s ≡ answered seen_of (roomed 32 256 8192 1024 (reads_tables bs)) → cs' ≡ laid (roomed 32 256 8192 1024 (reads_tables bs)) (λ t. t.constraints) cs → ps' ≡ laid (roomed 32 256 8192 1024 (reads_tables bs)) (λ t. t.points) ps → fs' ≡ laid (roomed 32 256 8192 1024 (reads_tables bs)) (λ t. t.factors) fs → hs' ≡ laid (roomed 32 256 8192 1024 (reads_tables bs)) (λ t. t.holdings) hs → Ok (tables s.day (take (s.constraints - 0) cs') (take (s.points - 0) ps') (take (s.factors - 0) fs') (take (s.holdings - 0) hs')) ≡ hour_read bs
+pub read_slices : (bs : List ℕ) (s : Seen) (cs cs' : List ConstraintRow) (ps ps' : List PointRow) (fs fs' : List ℤ) (hs hs' : List HoldingRow) → Ok s ≡ answered seen_of (roomed 32 256 8192 1024 (reads_tables bs)) → cs' ≡ laid (roomed 32 256 8192 1024 (reads_tables bs)) (λ t. t.constraints) cs → ps' ≡ laid (roomed 32 256 8192 1024 (reads_tables bs)) (λ t. t.points) ps → fs' ≡ laid (roomed 32 256 8192 1024 (reads_tables bs)) (λ t. t.factors) fs → hs' ≡ laid (roomed 32 256 8192 1024 (reads_tables bs)) (λ t. t.holdings) hs → Ok (tables s.day (take s.constraints cs') (take s.points ps') (take s.factors fs') (take s.holdings hs')) ≡ hour_read bs
 unfolding hour_read
-read_slices bs s cs cs' ps ps' fs fs' hs hs' e c p f h = simp sub-zero (read_in (roomed 32 256 8192 1024 (reads_tables bs)) s cs cs' ps ps' fs fs' hs hs' e c p f h)
+read_slices bs s cs cs' ps ps' fs fs' hs hs' e c p f h = read_in (roomed 32 256 8192 1024 (reads_tables bs)) s cs cs' ps ps' fs fs' hs hs' e c p f h
 
 pub refused_read : (bs : List ℕ) (e : Told) → Err e ≡ answered seen_of (roomed 32 256 8192 1024 (reads_tables bs)) → hour_read bs ≡ Err e
 unfolding hour_read

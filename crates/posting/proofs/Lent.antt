@@ -16,8 +16,8 @@ use Rattle.ledger.specs.Figures.{Figures}
 use Rattle.ledger.specs.Posting.{Posting, posting_of, PostAccepted, PostRefused}
 use Rattle.posting.specs.Posts.{posting_on}
 
-pub posted_as_lem : (m : Meaning) (t : Tables) (d : DayRow) (cs : List ConstraintRow) (ps : List PointRow) (fs : List ℤ) (hs : List HoldingRow) (s s' : List HourLine) (x x' : List ℤ) (f f' : Figures) (roll roll' : List RollLine) (r : Result HourAnswer Refusal) → d ≡ t.day → cs ≡ t.constraints → ps ≡ t.points → fs ≡ t.factors → hs ≡ t.holdings → MatchResult r (λ a. PostAccepted f roll (posting_of m d (payoff.tables cs ps fs) hs s x) a f' roll' s' x') (λ e. PostRefused f roll (posting_of m d (payoff.tables cs ps fs) hs s x) (told e) f' roll' s' x') → MatchResult r (λ a. PostAccepted f roll (posting_on m t s x) a f' roll' s' x') (λ e. PostRefused f roll (posting_on m t s x) (told e) f' roll' s' x')
-posted_as_lem m t d cs ps fs hs s s' x x' f f' roll roll' r de ce pe fe he h =
+pub posted_as_lem : (m : Meaning) (t : Tables) (d : DayRow) (ts : payoff.Tables) (hs : List HoldingRow) (s s' : List HourLine) (x x' : List ℤ) (f f' : Figures) (roll roll' : List RollLine) (r : Result HourAnswer Refusal) → d ≡ t.day → ts ≡ payoff.tables t.constraints t.points t.factors → hs ≡ t.holdings → MatchResult r (λ a. PostAccepted f roll (posting_of m d ts hs s x) a f' roll' s' x') (λ e. PostRefused f roll (posting_of m d ts hs s x) (told e) f' roll' s' x') → MatchResult r (λ a. PostAccepted f roll (posting_on m t s x) a f' roll' s' x') (λ e. PostRefused f roll (posting_on m t s x) (told e) f' roll' s' x')
+posted_as_lem m t d ts hs s s' x x' f f' roll roll' r de te he h =
     let F : Posting → Type 0 = λ p. MatchResult r (λ a. PostAccepted f roll p a f' roll' s' x') (λ e. PostRefused f roll p (told e) f' roll' s' x') in
-    let e : posting_of m d (payoff.tables cs ps fs) hs s x ≡ posting_on m t s x = rw (de, ce, pe, fe, he) in
+    let e : posting_of m d ts hs s x ≡ posting_on m t s x = rw (de, te, he) in
     subst F e h

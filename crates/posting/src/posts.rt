@@ -23,13 +23,10 @@ pub fn post_hour<I: Instrument>(
 ) -> Result<HourAnswer, Refusal>
     ensures { MatchResult result (λ a. PostAccepted (of_open month.old) roll.old (posting_on (I.means instrument.now) (tables_in hour.now) sheet.old amounts.old) a (of_open month.new) roll.new sheet.new amounts.new) (λ e. PostRefused (of_open month.old) roll.old (posting_on (I.means instrument.now) (tables_in hour.now) sheet.old amounts.old) (told e) (of_open month.new) roll.new sheet.new amounts.new) }
 {
-    let day = hour.day();
     month.post(
         roll,
-        &day,
-        hour.constraints(),
-        hour.points(),
-        hour.factors(),
+        &hour.day(),
+        &hour.tables(),
         hour.holdings(),
         instrument,
         sheet,

@@ -9,12 +9,13 @@ use hours::{NO_CONSTRAINT, NO_FACTOR, NO_HOLDING, NO_POINT};
 use ledger::{CLEAR_HOUR, CLEAR_ROLL, HourAnswer};
 use month::open;
 use packages::read_package;
-use payoff::Instrument;
+use payoff::{Instrument, PlainTables};
 use refusals::Refusal;
-use rows::{ConstraintRow, Day, HoldingRow, PointRow};
+use rows::{Day, HoldingRow};
 use statement::{HourFigures, write_statement};
 
 /// What a post answered, as a statement tells it.
+// neither type is this crate's, so no From can stand here
 fn figures_of(answer: &HourAnswer) -> HourFigures
     ensures { result ≡ figures_told answer.now }
 {
@@ -28,39 +29,29 @@ fn figures_of(answer: &HourAnswer) -> HourFigures
 }
 
 /// Settles an hour that was read, and writes its statement.
-fn settle_hour<'a, I: Instrument>(
+fn settle_hour<I: Instrument>(
     instrument: &I,
     day: &Day,
-    constraints: &'a [ConstraintRow],
-    points: &'a [PointRow],
-    factors: &'a [i16],
+    plain: &PlainTables,
     holdings: &[HoldingRow],
     out: &mut [u8],
 ) -> Result<usize, Refusal>
-    ensures answer { told_by (λ n. n) result ≡ length_of (within (length out.old) (statement_in (I.means instrument.now) (tables (plain_day day.now) constraints.now points.now factors.now holdings.now))) }
-    ensures buffer { out.new ≡ written (within (length out.old) (statement_in (I.means instrument.now) (tables (plain_day day.now) constraints.now points.now factors.now holdings.now))) out.old }
+    ensures answer { told_by (λ n. n) result ≡ length_of (within (length out.old) (statement_in (I.means instrument.now) (tables (plain_day day.now) plain.now.constraints.now plain.now.points.now plain.now.factors.now holdings.now))) }
+    ensures buffer { out.new ≡ written (within (length out.old) (statement_in (I.means instrument.now) (tables (plain_day day.now) plain.now.constraints.now plain.now.points.now plain.now.factors.now holdings.now))) out.old }
 {
     let mut roll = [CLEAR_ROLL; 128];
-    let mut month = match open(&mut roll) {
-        Ok(month) => month,
-        Err(refusal) => return Err(refusal),
-    };
+    let mut month = open(&mut roll)?;
     let mut sheet = [CLEAR_HOUR; 128];
     let mut amounts = [0i64; 1024];
-    let answer = match month.post(
+    let answer = month.post(
         &mut roll,
         day,
-        constraints,
-        points,
-        factors,
+        plain,
         holdings,
         instrument,
         &mut sheet,
         &mut amounts,
-    ) {
-        Ok(answer) => answer,
-        Err(refusal) => return Err(refusal),
-    };
+    )?;
     write_statement(day, holdings, &amounts, &figures_of(&answer), out)
 }
 
@@ -80,22 +71,23 @@ pub fn settle_package<I: Instrument>(
     let mut points = [NO_POINT; 256];
     let mut factors = [NO_FACTOR; 8192];
     let mut holdings = [NO_HOLDING; 1024];
-    match read_package(
+    let hour = read_package(
         bytes,
         &mut constraints,
         &mut points,
         &mut factors,
         &mut holdings,
-    ) {
-        Ok(hour) => settle_hour(
-            instrument,
-            &hour.day,
-            &constraints[0..hour.constraints],
-            &points[0..hour.points],
-            &factors[0..hour.factors],
-            &holdings[0..hour.holdings],
-            out,
-        ),
-        Err(refusal) => Err(refusal),
-    }
+    )?;
+    let plain = PlainTables {
+        constraints: &constraints[..hour.constraints],
+        points: &points[..hour.points],
+        factors: &factors[..hour.factors],
+    };
+    settle_hour(
+        instrument,
+        &hour.day,
+        &plain,
+        &holdings[..hour.holdings],
+        out,
+    )
 }
