@@ -1,10 +1,11 @@
-ghost use Rattle.std.specs.Prelude.{◌≡◌, ◌≤◌, ◌++◌, string_bytes, OnOk};
-ghost use Rattle.refusals.specs.Numbers.{told};
+ghost use Rattle.std.specs.Prelude.{◌≡◌, ◌++◌, string_bytes, OnOk};
+ghost use Rattle.refusals.specs.Numbers.{told_by};
 ghost use Rattle.hours.specs.Read.{tables_in};
-ghost use Rattle.hour_explained.specs.Explained.{owners_in, refused_hour, owners_text};
+ghost use Rattle.hour_explained.specs.Explained.{owners_in, owners_text};
+ghost use Rattle.hour_explained.specs.Sheet.{first_sheet};
 
 use hours::HourTables;
-use ledger::{CLEAR_HOUR, CLEAR_ROLL};
+use ledger::{CLEAR_HOUR, CLEAR_ROLL, HourLine};
 use line_text::push_lines;
 use month::open;
 use payoff::Instrument;
@@ -15,21 +16,30 @@ use std::alloc::AllocError;
 
 /// How many owners there are up to the last that holds anything.
 fn owners_in(holdings: &[HoldingRow]) -> usize
-    ensures value { result ≡ owners_in holdings.now }
-    ensures bound { result ≤ 65536 }
+    ensures { result ≡ owners_in holdings.now }
 {
-    let mut owners: usize = 0;
-    for holding in holdings {
-        owners = owners.max(holding.owner as usize + 1);
-    }
-    owners
+    holdings.iter().fold(0, |owners, holding| {
+        owners.max(holding.owner as usize + 1)
+    })
 }
 
-/// Appends that the hour is refused, and why.
-fn push_refusal(text: &mut String, refusal: Refusal) -> Result<(), AllocError>
-    ensures { OnOk result (string_bytes text.new ≡ string_bytes text.old ++ refused_hour (told refusal)) }
+/// The hour sheet of an hour that is posted as the first of a month of 128 owners, or its refusal.
+fn first_sheet<I: Instrument>(instrument: &I, hour: &HourTables) -> Result<[HourLine; 128], Refusal>
+    ensures { told_by (λ sheet. sheet) result ≡ first_sheet (I.means instrument.now) (tables_in hour.now) }
 {
-    writeln!(text, "hour {refusal}")
+    let mut roll = [CLEAR_ROLL; 128];
+    let mut sheet = [CLEAR_HOUR; 128];
+    let mut amounts = [0i64; 1024];
+    let mut month = open(&mut roll)?;
+    let _ = post_hour(
+        &mut month,
+        &mut roll,
+        hour,
+        instrument,
+        &mut sheet,
+        &mut amounts,
+    )?;
+    Ok(sheet)
 }
 
 /// Appends each owner's credit, charge and shortfall charge of the hour, posted as the first of a month of 128 owners; or
@@ -41,25 +51,11 @@ pub(crate) fn push_owners<I: Instrument>(
 ) -> Result<(), AllocError>
     ensures { OnOk result (string_bytes text.new ≡ string_bytes text.old ++ owners_text (I.means instrument.now) (tables_in hour.now)) }
 {
-    let mut roll = [CLEAR_ROLL; 128];
-    let mut month = match open(&mut roll) {
-        Ok(month) => month,
-        Err(refusal) => return push_refusal(text, refusal),
-    };
-    let mut sheet = [CLEAR_HOUR; 128];
-    let mut amounts = [0i64; 1024];
-    match post_hour(
-        &mut month,
-        &mut roll,
-        hour,
-        instrument,
-        &mut sheet,
-        &mut amounts,
-    ) {
-        Ok(_) => {
+    match first_sheet(instrument, hour) {
+        Ok(sheet) => {
             let owners = owners_in(hour.holdings()).min(128);
-            push_lines(text, &sheet[0..owners])
+            push_lines(text, &sheet[..owners])
         }
-        Err(refusal) => push_refusal(text, refusal),
+        Err(refusal) => writeln!(text, "hour {refusal}"),
     }
 }

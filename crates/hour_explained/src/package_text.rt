@@ -16,14 +16,7 @@ fn explain_hour<I: Instrument>(
 ) -> Result<String, AllocError>
     ensures { IfOk result (λ s. string_bytes s ≡ hour_text (I.means instrument.now) (tables_in hour.now)) }
 {
-    let mut text = explain_holdings(
-        heap,
-        instrument,
-        hour.constraints(),
-        hour.points(),
-        hour.factors(),
-        hour.holdings(),
-    )?;
+    let mut text = explain_holdings(heap, instrument, &hour.tables(), hour.holdings())?;
     push_owners(&mut text, instrument, hour)?;
     Ok(text)
 }
@@ -40,10 +33,6 @@ pub fn explain_package<I: Instrument>(
     let mut hour = HourTables::new();
     match hour.read(bytes) {
         Ok(()) => explain_hour(heap, instrument, &hour),
-        Err(refusal) => {
-            let mut text = String::new(heap);
-            writeln!(text, "{refusal}")?;
-            Ok(text)
-        }
+        Err(refusal) => format!(in heap; "{refusal}\n"),
     }
 }

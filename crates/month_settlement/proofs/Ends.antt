@@ -12,8 +12,8 @@ use Rattle.ledger.specs.Ledger.{Ledger, blank, noted, ledger_from, with_refund, 
 use Rattle.ledger.specs.Runs.{cell, is_open, is_refunded, is_closed, refunds, closes, Move, Chain, events_of, EventHolds, EachHolds, Holds, Balanced, Stands}
 use Rattle.ledger.proofs.Runs.{holds_alone}
 use Rattle.month_settlement.specs.declared.outcomes.BookedHour.{BookedHour}
-use Rattle.month_settlement.specs.declared.outcomes.MonthError.{MonthError}
-use Rattle.month_settlement.specs.declared.outcomes.MonthError.TheVariants.{Refused}
+use Rattle.month_settlement.specs.declared.month_error.MonthError.{MonthError}
+use Rattle.month_settlement.specs.declared.month_error.MonthError.TheVariants.{Refused}
 use Rattle.month_settlement.specs.Books.{outcomes_of, hours_ledger, roll_test, ending_test, month_test, MonthSettled, MonthRefused}
 use Rattle.month_settlement.specs.Running.{RanTo, PostedAll, Ended, EndRefused, no_refund, no_close}
 use Rattle.month_settlement.proofs.Ran.{move, chain_more, ledger_more, ran_figures, ran_roll}

@@ -16,8 +16,8 @@ use Rattle.ledger.specs.Runs.{Balanced}
 use Rattle.hours.specs.Read.{hour_read}
 use Rattle.posting.specs.Posts.{posting_on}
 use Rattle.month_settlement.specs.declared.outcomes.BookedHour.{BookedHour}
-use Rattle.month_settlement.specs.declared.outcomes.MonthError.{MonthError}
-use Rattle.month_settlement.specs.declared.outcomes.MonthError.TheVariants.{Refused, OutOfMemory}
+use Rattle.month_settlement.specs.declared.month_error.MonthError.{MonthError}
+use Rattle.month_settlement.specs.declared.month_error.MonthError.TheVariants.{Refused, OutOfMemory}
 
 abbrev pub bytes_of : List (Vec ℕ Global) → List (List ℕ)
 bytes_of vs = map vec_items vs

@@ -21,25 +21,20 @@ pub(crate) fn book_hour<I: Instrument>(
     ensures { Booking (I.means instrument.now) (length roll.old) bytes.now (of_open month.old) roll.old (told_by (λ h. h) result) (of_open month.new) roll.new }
 {
     let mut tables = HourTables::new();
-    match tables.read(bytes) {
-        Ok(()) => {}
-        Err(refusal) => return Err(refusal),
-    }
+    tables.read(bytes)?;
     let owners = roll.len().min(128);
     let mut sheet = [CLEAR_HOUR; 128];
     let mut amounts = [0i64; 1024];
-    match post_hour(
+    let answer = post_hour(
         month,
         roll,
         &tables,
         instrument,
-        &mut sheet[0..owners],
+        &mut sheet[..owners],
         &mut amounts,
-    ) {
-        Ok(answer) => Ok(BookedHour {
-            hour: tables.day().hour,
-            answer,
-        }),
-        Err(refusal) => Err(refusal),
-    }
+    )?;
+    Ok(BookedHour {
+        hour: tables.day().hour,
+        answer,
+    })
 }

@@ -15,12 +15,6 @@ pub(crate) fn refund_and_close(
 ) -> Result<ClosedMonth, Refusal>
     ensures { MatchResult result (λ m. Ended (of_open month) roll.old loads.old (of_closed m) roll.new loads.new) (λ e. EndRefused (of_open month) roll.old loads.old (told e) loads.new) }
 {
-    let refunded = match month.refund(roll) {
-        Ok(refunded) => refunded,
-        Err(back) => return Err(back.1),
-    };
-    match refunded.close(roll, loads) {
-        Ok(closed) => Ok(closed),
-        Err(back) => Err(back.1),
-    }
+    let refunded = month.refund(roll)?;
+    Ok(refunded.close(roll, loads)?)
 }

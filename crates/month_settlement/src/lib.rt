@@ -4,11 +4,13 @@
 
 mod booking;
 mod closing;
+mod month_error;
 mod outcomes;
 mod posting_all;
 mod progress;
 mod settling;
 
-pub use outcomes::{BookedHour, MonthError, SettledMonth};
+pub use month_error::MonthError;
+pub use outcomes::{BookedHour, SettledMonth};
 pub use progress::Progress;
 pub use settling::settle_month;

@@ -17,10 +17,3 @@ pub struct SettledMonth {
     pub roll: [RollLine; 128],
     pub figures: ClosedFigures,
 }
-
-/// Why a month is not settled: a call refuses the whole month, or memory fails.
-#[derive(Drop)]
-pub enum MonthError {
-    Refused(Refusal),
-    OutOfMemory,
-}

@@ -3,7 +3,8 @@ ghost use Rattle.month.specs.Months.{of_closed, of_told};
 ghost use Rattle.month_settlement.specs.Books.{bytes_of, MonthSettled, MonthRefused};
 
 use crate::closing::refund_and_close;
-use crate::outcomes::{BookedHour, MonthError, SettledMonth};
+use crate::month_error::MonthError;
+use crate::outcomes::{BookedHour, SettledMonth};
 use crate::posting_all::post_all;
 use crate::progress::Progress;
 use ledger::{CLEAR_ROLL, LoadLine, RollLine};
@@ -24,18 +25,9 @@ fn settle_on<I: Instrument, P: Progress>(
     requires { hours.old.items ≡ [] }
     ensures { MatchResult result (λ c. MonthSettled (I.means instrument.now) (length roll.old) (bytes_of packages.now) loads.old hours.new.items (of_closed c) roll.new loads.new) (λ e. MonthRefused (I.means instrument.now) (length roll.old) (bytes_of packages.now) loads.old e loads.new) }
 {
-    let mut month = match open(roll) {
-        Ok(month) => month,
-        Err(refusal) => return Err(MonthError::Refused(refusal)),
-    };
-    match post_all(&mut month, roll, instrument, packages, hours, progress) {
-        Ok(()) => {}
-        Err(_) => return Err(MonthError::OutOfMemory),
-    }
-    match refund_and_close(month, roll, loads) {
-        Ok(closed) => Ok(closed),
-        Err(refusal) => Err(MonthError::Refused(refusal)),
-    }
+    let mut month = open(roll)?;
+    post_all(&mut month, roll, instrument, packages, hours, progress)?;
+    Ok(refund_and_close(month, roll, loads)?)
 }
 
 /// Settles a month of so many owners from its packages: each is posted, or refused and set aside, in turn; then the month
@@ -52,26 +44,21 @@ pub fn settle_month<I: Instrument, P: Progress>(
     ensures { MatchResult result (λ s. MonthSettled (I.means instrument.now) owners (bytes_of packages.now) loads.old s.hours.items (of_told s.figures) (take owners s.roll) loads.new) (λ e. MonthRefused (I.means instrument.now) owners (bytes_of packages.now) loads.old e loads.new) }
 {
     if owners > 128 {
-        return Err(MonthError::Refused(Refusal {
-            cause: Cause::RollSize,
-            place: 0,
-        }));
+        return Err(MonthError::Refused(Cause::RollSize.at(0)));
     }
     let mut roll = [CLEAR_ROLL; 128];
     let mut hours = Vec::new(heap);
-    match settle_on(
-        &mut roll[0..owners],
+    let closed = settle_on(
+        &mut roll[..owners],
         instrument,
         packages,
         loads,
         &mut hours,
         progress,
-    ) {
-        Ok(closed) => Ok(SettledMonth {
-            hours,
-            roll,
-            figures: closed.figures(),
-        }),
-        Err(error) => Err(error),
-    }
+    )?;
+    Ok(SettledMonth {
+        hours,
+        roll,
+        figures: closed.figures(),
+    })
 }
