@@ -1,4 +1,4 @@
-use anyhow::anyhow;
+use anyhow::{anyhow, bail};
 use ledger::{LoadLine, NOTHING};
 use std::env;
 
@@ -14,22 +14,24 @@ pub(crate) struct Job {
 
 /// How many owners a word says.
 fn owners_of(word: &str) -> anyhow::Result<usize> {
-    match word.parse::<usize>() {
-        Ok(owners) => Ok(owners),
-        Err(_) => Err(anyhow!("owners: '{word}' is no number")),
-    }
+    word.parse::<usize>()
+        .map_err(|_| anyhow!("owners: '{word}' is no number"))
+}
+
+/// A load of so many MWh.
+fn load_of(word: &str) -> anyhow::Result<LoadLine> {
+    let mwh = word
+        .parse::<u32>()
+        .map_err(|_| anyhow!("loads: '{word}' is no number of MWh"))?;
+    Ok(LoadLine { mwh, paid: NOTHING })
 }
 
 /// The loads of a comma list of MWh; an empty word has none.
 fn loads_of(rt: &HostRuntime, words: &str) -> anyhow::Result<Vec<LoadLine>> {
     let mut loads = Vec::new(rt.alloc());
-    if words.is_empty() {
-        return Ok(loads);
-    }
-    for word in words.split(',') {
-        match word.parse::<u32>() {
-            Ok(mwh) => loads.push(LoadLine { mwh, paid: NOTHING })?,
-            Err(_) => return Err(anyhow!("loads: '{word}' is no number of MWh")),
+    if !words.is_empty() {
+        for word in words.split(',') {
+            loads.push(load_of(word)?)?;
         }
     }
     Ok(loads)
@@ -38,23 +40,14 @@ fn loads_of(rt: &HostRuntime, words: &str) -> anyhow::Result<Vec<LoadLine>> {
 impl Job {
     /// Reads the command line.
     pub(crate) fn read(rt: &HostRuntime) -> anyhow::Result<Job> {
-        let mut words = Vec::new(rt.alloc());
-        for word in env::args(rt)?.skip(1) {
-            words.push(word)?;
-        }
-        if words.len() < 2 {
-            return Err(anyhow!("{USAGE}"));
-        }
-        let owners = owners_of(words[0].as_str())?;
-        let loads = loads_of(rt, words[1].as_str())?;
-        let mut names = Vec::new(rt.alloc());
-        for word in words.into_iter().skip(2) {
-            names.push(word)?;
-        }
+        let mut words = env::args(rt)?.skip(1);
+        let (Some(owners), Some(loads)) = (words.next(), words.next()) else {
+            bail!("{USAGE}");
+        };
         Ok(Job {
-            owners,
-            loads,
-            names,
+            owners: owners_of(owners.as_str())?,
+            loads: loads_of(rt, loads.as_str())?,
+            names: words.collect(rt.alloc())?,
         })
     }
 }

@@ -18,10 +18,8 @@ fn read_package_file(rt: &HostRuntime, name: &str) -> io::Result<Vec<u8>> {
 pub(crate) fn read_packages(rt: &HostRuntime, names: &[String]) -> anyhow::Result<Vec<Vec<u8>>> {
     let mut packages = Vec::new(rt.alloc());
     for name in names {
-        match read_package_file(rt, name.as_str()) {
-            Ok(package) => packages.push(package)?,
-            Err(e) => return Err(anyhow!("{name}: {e}")),
-        }
+        let package = read_package_file(rt, name.as_str()).map_err(|e| anyhow!("{name}: {e}"))?;
+        packages.push(package)?;
     }
     Ok(packages)
 }

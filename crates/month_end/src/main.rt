@@ -13,33 +13,29 @@ use month_text::month_text;
 use payoff::standard_instrument;
 use std::io::Write;
 use std::process::ExitCode;
-use telling::{ToStandardError, because};
+use telling::ToStandardError;
 
 /// Reads every file before the first hour is posted, and prints nothing before the month is closed.
 fn run(rt: &HostRuntime) -> anyhow::Result<()> {
     let mut job = Job::read(rt)?;
     let packages = read_packages(rt, job.names.as_slice())?;
     let mut progress = ToStandardError { rt };
-    match settle_month(
+    let month = settle_month(
         rt.alloc(),
         &standard_instrument(),
         job.owners,
         packages.as_slice(),
         job.loads.as_mut_slice(),
         &mut progress,
-    ) {
-        Ok(month) => {
-            let text = month_text(
-                rt.alloc(),
-                job.names.as_slice(),
-                &month,
-                job.loads.as_slice(),
-            )?;
-            rt.stdout().write_all(text.as_bytes())?;
-            Ok(())
-        }
-        Err(error) => Err(because(error)),
-    }
+    )?;
+    let text = month_text(
+        rt.alloc(),
+        job.names.as_slice(),
+        &month,
+        job.loads.as_slice(),
+    )?;
+    rt.stdout().write_all(text.as_bytes())?;
+    Ok(())
 }
 
 fn main(rt: HostRuntime) -> ExitCode {

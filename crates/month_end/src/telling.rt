@@ -1,5 +1,4 @@
-use anyhow::anyhow;
-use month_settlement::{MonthError, Progress};
+use month_settlement::Progress;
 
 /// Hours between two lines of progress.
 const STEP: usize = 50;
@@ -15,13 +14,5 @@ impl Progress for ToStandardError<'_> {
         if hours % STEP == 0 {
             let _ = eprintln!(self.rt; "{hours} hours");
         }
-    }
-}
-
-/// Why the month was not settled, in words.
-pub(crate) fn because(error: MonthError) -> anyhow::Error {
-    match error {
-        MonthError::Refused(refusal) => anyhow!("the month is {refusal}"),
-        MonthError::OutOfMemory => anyhow!("out of memory"),
     }
 }

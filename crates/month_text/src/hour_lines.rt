@@ -11,20 +11,22 @@ use std::alloc::AllocError;
 fn push_head(text: &mut String, booked: &BookedHour) -> Result<(), AllocError>
     ensures { OnOk result (string_bytes text.new ≡ string_bytes text.old ++ booked_head booked.now) }
 {
-    let hour = booked.hour;
-    let rent = booked.answer.rent.value;
-    let credit = booked.answer.credits.value;
-    write!(text, "hour {hour} rent {rent} credit {credit}")
+    write!(
+        text,
+        "hour {} rent {} credit {}",
+        booked.hour, booked.answer.rent.value, booked.answer.credits.value
+    )
 }
 
 /// Appends its charges and shortfall, and the balance.
 fn push_tail(text: &mut String, booked: &BookedHour) -> Result<(), AllocError>
     ensures { OnOk result (string_bytes text.new ≡ string_bytes text.old ++ booked_tail booked.now) }
 {
-    let charge = booked.answer.charges.value;
-    let short = booked.answer.short.value;
-    let balance = booked.answer.balance.value;
-    writeln!(text, " charge {charge} short {short} balance {balance}")
+    writeln!(
+        text,
+        " charge {} short {} balance {}",
+        booked.answer.charges.value, booked.answer.short.value, booked.answer.balance.value
+    )
 }
 
 /// Appends the line of an hour that was posted, as its statement has it.
@@ -60,11 +62,7 @@ fn push_outcome(
 fn name_at(names: &[String], place: usize) -> &str
     ensures { result.now ≡ name_at (names_of names.now) place }
 {
-    if place < names.len() {
-        names[place].as_str()
-    } else {
-        ""
-    }
+    names.get(place).map_or("", |name| name.as_str())
 }
 
 /// Appends what became of each package in its turn.

@@ -9,13 +9,10 @@ use std::alloc::AllocError;
 fn push_earned(text: &mut String, m: &ClosedFigures) -> Result<(), AllocError>
     ensures { OnOk result (string_bytes text.new ≡ string_bytes text.old ++ earned_text (of_told m.now)) }
 {
-    let hours = m.hours;
-    let rents = m.rents;
-    let credits = m.credits;
-    let charges = m.charges;
     write!(
         text,
-        "month hours {hours} rent {rents} credit {credits} charge {charges}"
+        "month hours {} rent {} credit {} charge {}",
+        m.hours, m.rents, m.credits, m.charges
     )
 }
 
@@ -23,12 +20,10 @@ fn push_earned(text: &mut String, m: &ClosedFigures) -> Result<(), AllocError>
 fn push_repaid(text: &mut String, m: &ClosedFigures) -> Result<(), AllocError>
     ensures { OnOk result (string_bytes text.new ≡ string_bytes text.old ++ repaid_text (of_told m.now)) }
 {
-    let shorts = m.shortfall_charges;
-    let refunds = m.refunds;
-    let payments = m.load_payments;
     writeln!(
         text,
-        " shortfall charge {shorts} refund {refunds} load payment {payments}"
+        " shortfall charge {} refund {} load payment {}",
+        m.shortfall_charges, m.refunds, m.load_payments
     )
 }
 
@@ -36,13 +31,11 @@ fn push_repaid(text: &mut String, m: &ClosedFigures) -> Result<(), AllocError>
 fn push_in(text: &mut String, m: &ClosedFigures) -> Result<(), AllocError>
     ensures { OnOk result (string_bytes text.new ≡ string_bytes text.old ++ in_text (of_told m.now)) }
 {
-    let rents = m.rents;
-    let charges = m.charges;
-    let shorts = m.shortfall_charges;
-    let sum = rents as u128 + charges as u128 + shorts as u128;
+    let sum = m.rents as u128 + m.charges as u128 + m.shortfall_charges as u128;
     writeln!(
         text,
-        "in rents {rents} + charges {charges} + shortfall charges {shorts} = {sum}"
+        "in rents {} + charges {} + shortfall charges {} = {sum}",
+        m.rents, m.charges, m.shortfall_charges
     )
 }
 
@@ -50,13 +43,11 @@ fn push_in(text: &mut String, m: &ClosedFigures) -> Result<(), AllocError>
 fn push_out(text: &mut String, m: &ClosedFigures) -> Result<(), AllocError>
     ensures { OnOk result (string_bytes text.new ≡ string_bytes text.old ++ out_text (of_told m.now)) }
 {
-    let credits = m.credits;
-    let refunds = m.refunds;
-    let payments = m.load_payments;
-    let sum = credits as u128 + refunds as u128 + payments as u128;
+    let sum = m.credits as u128 + m.refunds as u128 + m.load_payments as u128;
     writeln!(
         text,
-        "out credits {credits} + refunds {refunds} + load payments {payments} = {sum}"
+        "out credits {} + refunds {} + load payments {} = {sum}",
+        m.credits, m.refunds, m.load_payments
     )
 }
 
