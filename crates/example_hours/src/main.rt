@@ -3,7 +3,7 @@
 #![tactic(auto)]
 
 use payoff::standard_instrument;
-use rows::{Day, DayRow, HeldQuantity, block_at};
+use rows::{Day, DayRow, FromRow, HeldQuantity, block_at};
 use settlement::settle_package;
 use std::io::Write;
 

@@ -2,16 +2,14 @@
 
 #![tactic(auto)]
 
+use format::MOST_READ;
 use hour_explained::explain_package;
 use input::read_up_to;
 use payoff::standard_instrument;
 use std::io::Write;
 
-/// One byte more than the largest package: what is longer is refused without reading it all.
-const MOST_BYTES: usize = format::LARGEST + 1;
-
 fn main(rt: HostRuntime) -> anyhow::Result<()> {
-    let mut bytes = [0u8; MOST_BYTES];
+    let mut bytes = [0u8; MOST_READ];
     let n = read_up_to(&mut rt.stdin(), &mut bytes)?;
     let text = explain_package(rt.alloc(), &standard_instrument(), &bytes[0..n])?;
     rt.stdout().write_all(text.as_bytes())?;

@@ -13,3 +13,7 @@ pub const MOST_HOLDINGS: usize = 1_024;
 
 /// The bytes of the largest package: one with the most constraints, points and holdings.
 pub const LARGEST: usize = 44_340;
+
+/// How many bytes a program reads: one more than the largest package has, so that a longer one is refused without being
+/// read whole.
+pub const MOST_READ: usize = LARGEST + 1;

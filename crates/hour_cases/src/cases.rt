@@ -1,5 +1,5 @@
 use crate::spelling::{bytes_of, lines_of};
-use anyhow::anyhow;
+use anyhow::Context;
 use payoff::standard_instrument;
 use settlement::{LARGEST_STATEMENT, refused_line, settle_package};
 use std::alloc::{AllocError, Global};
@@ -14,41 +14,29 @@ fn printed(heap: Global, bytes: &[u8]) -> Result<Vec<u8>, AllocError> {
 }
 
 /// How many cases were compared, and how many of them agree.
-#[derive(Drop)]
+#[derive(Default, Drop)]
 pub(crate) struct Tally {
     compared: u64,
     agree: u64,
 }
 
 impl Tally {
-    pub(crate) fn new() -> Tally {
-        Tally {
-            compared: 0,
-            agree: 0,
-        }
-    }
-
     /// Compares one case, and names it where it differs.
     pub(crate) fn compare(&mut self, rt: &HostRuntime, line: &str) -> anyhow::Result<()> {
         self.compared = self.compared.saturating_add(1);
-        let Some((package, expected)) = line.split_once('\t') else {
-            return Err(anyhow!("a case has no tab"));
-        };
+        let (package, expected) = line.split_once('\t').context("a case has no tab")?;
         let bytes = bytes_of(rt.alloc(), package)?;
         let found = printed(rt.alloc(), bytes.as_slice())?;
         if found == lines_of(rt.alloc(), expected)? {
             self.agree = self.agree.saturating_add(1);
         } else {
-            let number = self.compared;
-            println!(rt; "case {number} differs from {expected}")?;
+            println!(rt; "case {} differs from {expected}", self.compared)?;
         }
         Ok(())
     }
 
     pub(crate) fn print(&self, rt: &HostRuntime) -> anyhow::Result<()> {
-        let agree = self.agree;
-        let compared = self.compared;
-        println!(rt; "{agree} of {compared} hours agree")?;
+        println!(rt; "{} of {} hours agree", self.agree, self.compared)?;
         Ok(())
     }
 }

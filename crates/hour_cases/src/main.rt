@@ -14,7 +14,7 @@ use std::fs;
 /// Compares every line of the file of cases: a package in hexadecimal, a tab, and what is to be printed of it.
 fn compare(rt: &HostRuntime) -> anyhow::Result<()> {
     let text = fs::read_to_string(rt, "hours.tsv")?;
-    let mut tally = Tally::new();
+    let mut tally = Tally::default();
     for line in text.lines() {
         tally.compare(rt, line)?;
     }

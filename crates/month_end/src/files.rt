@@ -1,15 +1,13 @@
 use anyhow::anyhow;
+use format::MOST_READ;
 use input::read_up_to;
 use std::fs::File;
 use std::io;
 
-/// One byte more than the largest package: what is longer is refused without reading it all.
-const MOST_BYTES: usize = format::LARGEST + 1;
-
 /// The bytes of a file, as far as a package may go.
 fn read_package_file(rt: &HostRuntime, name: &str) -> io::Result<Vec<u8>> {
     let mut file = File::open(rt, name)?;
-    let mut bytes = [0u8; MOST_BYTES];
+    let mut bytes = [0u8; MOST_READ];
     let n = read_up_to(&mut file, &mut bytes)?;
     Ok(Vec::from_slice(rt.alloc(), &bytes[0..n])?)
 }

@@ -3,16 +3,14 @@
 
 #![tactic(auto)]
 
+use format::MOST_READ;
 use input::read_up_to;
 use payoff::standard_instrument;
 use settlement::{LARGEST_STATEMENT, refused_line, settle_package};
 use std::io::Write;
 
-/// One byte more than the largest package: what is longer is refused without reading it all.
-const MOST_BYTES: usize = format::LARGEST + 1;
-
 fn main(rt: HostRuntime) -> anyhow::Result<()> {
-    let mut bytes = [0u8; MOST_BYTES];
+    let mut bytes = [0u8; MOST_READ];
     let n = read_up_to(&mut rt.stdin(), &mut bytes)?;
     let mut text = [0u8; LARGEST_STATEMENT];
     match settle_package(&standard_instrument(), &bytes[0..n], &mut text) {
