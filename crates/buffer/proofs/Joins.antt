@@ -2,6 +2,8 @@
 use Rattle.std.proofs.Common.{◌≡◌, ℕ, ◌+◌, ◌-◌, ◌≤◌, List, [], ◌++◌, length, take, drop, sym, refl, ap, ◌∙◌, append_assoc, append-nil, arith, length-append}
 use Rattle.std.proofs.lemmas.List.{drop-drop, take-append-drop}
 use Rattle.buffer.specs.Writes.{Wrote}
+use Rattle.buffer.specs.Appends.{Appends}
+use Rattle.buffer.specs.declared.output.Output.{Output}
 
 past : (xs : List ℕ) (q r : ℕ) → q ≤ r → drop r xs ≡ drop (r - q) (drop q xs)
 past xs q r h = let u : r ≡ q + (r - q) = omega arith in ap (λ m. drop m xs) u ∙ sym (drop-drop (r - q) q xs)
@@ -26,3 +28,10 @@ whole a bs r d w =
     let e : r ≡ length bs = w.end ∙ omega arith in
     let s = take-append-drop r d in
     (e, sym s ∙ ap (λ xs. xs ++ drop r d) w.front ∙ ap (λ xs. bs ++ xs) w.rest ∙ ap (λ m. bs ++ drop m a) e, w.front)
+
+-- the same of what is appended
+pub unchanged : (o : Output) → Appends o [] o
+unchanged o = record { same = refl; wrote = nothing o.buffer.now o.len }
+
+pub appended : (o p q : Output) (xs ys : List ℕ) → Appends o xs p → Appends p ys q → Appends o (xs ++ ys) q
+appended o p q xs ys h k = record { same = k.same ∙ h.same; wrote = joined o.buffer.now p.buffer.now q.buffer.now o.len p.len q.len xs ys h.wrote k.wrote }

@@ -5,9 +5,10 @@
 
 mod spelling;
 mod stating;
+mod tables;
 mod telling;
 
-use anyhow::anyhow;
+use anyhow::Context;
 use spelling::spelled;
 use stating::state;
 use telling::tell;
@@ -15,9 +16,10 @@ use telling::tell;
 fn run(rt: &HostRuntime) -> anyhow::Result<()> {
     for line in rt.lines(rt.alloc()) {
         let line = line?;
-        let Some((label, rest)) = line.as_str().split_once(": ") else {
-            return Err(anyhow!("a line without a label"));
-        };
+        let (label, rest) = line
+            .as_str()
+            .split_once(": ")
+            .context("a line without a label")?;
         let (room, bytes) = spelled(rt.alloc(), rest)?;
         print!(rt; "{label}: ")?;
         tell(rt, room, bytes.as_slice())?;

@@ -1,7 +1,7 @@
 //! A package as it is spelled in a line: the lengths of the four tables, and then bytes in hexadecimal, `41*3` for three of them.
 ghost use Rattle.std.specs.Prelude.{◌<◌};
 
-use anyhow::anyhow;
+use anyhow::Context;
 use std::alloc::Global;
 
 /// How many entries each of the caller's tables has.
@@ -16,11 +16,7 @@ pub(crate) struct Room {
 fn digit(b: u8) -> u8
     ensures { result < 16 }
 {
-    match b {
-        b'0'..=b'9' => b - b'0',
-        b'a'..=b'f' => b - b'a' + 10,
-        _ => 0,
-    }
+    (b as char).to_digit(16).unwrap_or(0) as u8
 }
 
 /// Adds the bytes of a word such as `41` or `0007*32`.
@@ -29,11 +25,9 @@ fn add_word(out: &mut Vec<u8>, word: &str) -> anyhow::Result<()> {
         Some((hex, n)) => (hex, n.parse::<u32>()?),
         None => (word, 1),
     };
-    for _i in 0..times {
-        let mut left = hex.as_bytes();
-        while let [a, b, rest @ ..] = left {
-            out.push(digit(*a) * 16 + digit(*b))?;
-            left = rest;
+    for _ in 0..times {
+        for [high, low] in hex.as_bytes().as_chunks::<2>().0 {
+            out.push(digit(*high) * 16 + digit(*low))?;
         }
     }
     Ok(())
@@ -41,10 +35,8 @@ fn add_word(out: &mut Vec<u8>, word: &str) -> anyhow::Result<()> {
 
 /// The next word as a number.
 fn count(word: Option<&str>) -> anyhow::Result<usize> {
-    match word {
-        Some(n) => Ok(n.parse::<usize>()?),
-        None => Err(anyhow!("a length is missing")),
-    }
+    let word = word.context("a length is missing")?;
+    Ok(word.parse::<usize>()?)
 }
 
 /// The lengths of the tables and the bytes of a line.

@@ -1,17 +1,16 @@
-use anyhow::anyhow;
+use anyhow::{Context, anyhow};
 use rows::{Day, DayRow, HoldingRow};
 use statement::{HourFigures, write_statement};
 
 /// Prints the statement of an hour with two holdings, of which one pays and one is paid.
 pub(crate) fn state(rt: &HostRuntime) -> anyhow::Result<()> {
-    let Ok(day) = Day::new(DayRow {
+    let day = Day::new(DayRow {
         hour: 744,
         weekday: 6,
         ending: 24,
         rent: 10_000,
-    }) else {
-        return Err(anyhow!("no hour"));
-    };
+    })
+    .map_err(|_| anyhow!("no hour"))?;
     let holding = HoldingRow {
         owner: 127,
         letter: b'o',
@@ -30,23 +29,16 @@ pub(crate) fn state(rt: &HostRuntime) -> anyhow::Result<()> {
         balance: -9_223_372_036_854_775_808,
     };
     let mut out = vec![in rt.alloc(); 0u8; 300]?;
-    match write_statement(
+    let n = write_statement(
         &day,
         &[holding, holding],
         &[-6_400, 0],
         &figures,
         out.as_mut_slice(),
-    ) {
-        Ok(n) => {
-            let Some(bytes) = out.as_slice().get(0..n) else {
-                return Err(anyhow!("longer than its buffer"));
-            };
-            match std::str::from_utf8(bytes) {
-                Ok(text) => print!(rt; "{text}")?,
-                Err(_) => return Err(anyhow!("no text")),
-            }
-        }
-        Err(_) => return Err(anyhow!("refused")),
-    }
+    )
+    .map_err(|_| anyhow!("refused"))?;
+    let bytes = out.as_slice().get(..n).context("longer than its buffer")?;
+    let text = std::str::from_utf8(bytes).map_err(|_| anyhow!("no text"))?;
+    print!(rt; "{text}")?;
     Ok(())
 }

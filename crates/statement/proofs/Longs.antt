@@ -1,11 +1,26 @@
 -- How long lines are, and one more of them.
-use Rattle.std.proofs.Common.{◌≡◌, ℕ, zero, suc, ◌+◌, ◌*◌, ◌^◌, ◌<◌, ◌≤◌, true, List, [], ◌∷◌, ◌++◌, length, get_or, take, ℤ, pos, decimal, sym, refl, ap, ◌∙◌, subst, inl, inr, append_assoc, append-nil, arith, length-append, w64, SFits}
+use Rattle.std.proofs.Common.{◌≡◌, ℕ, suc, ◌+◌, ◌*◌, ◌^◌, ◌<◌, ◌≤◌, true, List, [], ◌∷◌, ◌++◌, length, get_or, take, map, ℤ, decimal, sym, refl, ap, ◌∙◌, subst, inl, inr, append-nil, arith, length-append, Bor, Iter, w64, SFits}
+use Prim.Native.Nat.{min}
+use Rattle.std.specs.List.{flat_map, zip, enumerate_from}
+use Rattle.std.proofs.lemmas.Grind.{flat_map-append}
+use Rattle.std.proofs.lemmas.List.{map-append}
+use Rattle.std.proofs.lemmas.List.Folds.{length-flat_map-take}
+use Rattle.std.proofs.lemmas.List.FromFn.{length-enumerate_from, get_or-enumerate_from}
+use Rattle.std.proofs.lemmas.Slice.Zip.{length-zip}
+use Rattle.std.proofs.iter.Yields.{fronts}
+use Rattle.std.proofs.lemmas.Iterator.{YieldsList, YieldsList-from_slice, YieldsList-from_zip, zips}
+use Rattle.std.proofs.lemmas.Iterator.Consumers.{YieldsList-from_enumerate}
+use Rattle.std.specs.Iterator.Adapters.{zip_first, zip_second, enumerate_source, enumerate_count, enumerate_steps}
+use Rattle.std.specs.Slice.Iter.{iter_rest}
+use Rattle.std.specs.declared.iter.Enumerate.{Enumerate}
+use Rattle.std.specs.declared.iter.Zip.{Zip}
 use Rattle.std.specs.Fmt.{signed_decimal}
 use Rattle.std.proofs.lemmas.Fmt.{length-decimal-le, length_signed_le}
 use Rattle.std.proofs.lemmas.Bool.Decides.{nat_tests}
 use Rattle.rows.specs.declared.plain.HoldingRow.{HoldingRow}
-use Rattle.buffer.specs.Writes.{Wrote}
-use Rattle.buffer.proofs.Joins.{joined}
+use Rattle.buffer.specs.Appends.{Appends}
+use Rattle.buffer.specs.declared.output.Output.{Output}
+use Rattle.buffer.proofs.Joins.{appended}
 use Rattle.statement.specs.declared.figures.HourFigures.{HourFigures}
 use Rattle.statement.specs.Lines.{holding_line, holding_lines, hour_line_of, sizes_ok}
 use Rattle.statement.specs.Room.{Room}
@@ -29,67 +44,68 @@ has_room room longest long h (inr p) = p
 pub hour_long : (n : ℕ) (f : HourFigures) → length (hour_line_of n f) ≡ 44 + length (decimal n) + (length (signed_decimal f.rent) + length (signed_decimal f.credits) + length (signed_decimal f.charges) + length (signed_decimal f.shortfall) + length (signed_decimal f.balance))
 hour_long n f = simp length-append (omega arith)
 
--- the line of holding i, which has an amount
-pub lines_more : (j i : ℕ) (hs : List HoldingRow) (zs : List ℤ) (d : HoldingRow) (e : ℤ) → i < length hs → i < length zs → holding_lines j (take (i + 1) hs) (take (i + 1) zs) ≡ holding_lines j (take i hs) (take i zs) ++ holding_line (j + i) (get_or hs i d).owner (get_or zs i e)
-lines_more j i [] zs d e h k = absurd (omega arith)
-lines_more j i (x ∷ hs) [] d e h k = absurd (omega arith)
-lines_more j zero (x ∷ hs) (a ∷ zs) d e h k =
-    let m : j ≡ j + 0 = omega arith in
-    append-nil (holding_line j x.owner a) ∙ ap (λ n. holding_line n x.owner a) m
-lines_more j (suc i) (x ∷ hs) (a ∷ zs) d e h k =
-    let s : suc i + 1 ≡ suc (i + 1) = omega arith in
-    let m : suc j + i ≡ j + suc i = omega arith in
-    let ih = lines_more (suc j) i hs zs d e (omega arith) (omega arith) in
-    ap (λ n. holding_lines j (take n (x ∷ hs)) (take n (a ∷ zs))) s
-    ∙ ap (λ ys. holding_line j x.owner a ++ ys) ih
-    ∙ sym (append_assoc (holding_line j x.owner a) (holding_lines (suc j) (take i hs) (take i zs)) (holding_line (suc j + i) (get_or hs i d).owner (get_or zs i e)))
-    ∙ ap (λ n. (holding_line j x.owner a ++ holding_lines (suc j) (take i hs) (take i zs)) ++ holding_line n (get_or hs i d).owner (get_or zs i e)) m
-
--- the lines of some of the holdings are no longer than those of all, and amounts past the holdings say nothing
-pub lines_front : (j n : ℕ) (hs : List HoldingRow) (zs : List ℤ) → length (holding_lines j (take n hs) (take n zs)) ≤ length (holding_lines j hs zs)
-lines_front j zero hs zs = omega arith
-lines_front j (suc n) [] zs = omega arith
-lines_front j (suc n) (x ∷ hs) [] = omega arith
-lines_front j (suc n) (x ∷ hs) (a ∷ zs) =
-    let i = lines_front (suc j) n hs zs in
-    let p = length-append (holding_line j x.owner a) (holding_lines (suc j) (take n hs) (take n zs)) in
-    let q = length-append (holding_line j x.owner a) (holding_lines (suc j) hs zs) in
-    omega arith
-
-pub lines_all : (j n : ℕ) (hs : List HoldingRow) (zs : List ℤ) → length hs ≤ n → holding_lines j (take n hs) (take n zs) ≡ holding_lines j hs zs
-lines_all j n [] zs h = none n zs
-  where
-    none : (m : ℕ) (ys : List ℤ) → holding_lines j (take m []) (take m ys) ≡ []
-    none zero ys = refl
-    none (suc m) [] = refl
-    none (suc m) (y ∷ ys) = refl
-lines_all j zero (x ∷ hs) zs h = absurd (omega arith)
-lines_all j (suc n) (x ∷ hs) [] h = refl
-lines_all j (suc n) (x ∷ hs) (a ∷ zs) h = ap (λ ys. holding_line j x.owner a ++ ys) (lines_all (suc j) n hs zs (omega arith))
-
 pub sizes_inv : (a b : ℕ) → sizes_ok a b ≡ true → (a ≤ 1024) × (a ≤ b)
 sizes_inv a b e = (grind (arith, nat_tests), grind (arith, nat_tests))
 
--- a turn's holding where there is none
-abbrev pub blank : HoldingRow
-blank = record { owner = 0; letter = 0; source = 0; sink = 0; quantity = 0; block = 0; actual = 0; real_time = 0 }
+-- a holding with its number and its amount, and its line
+abbrev pub Turn : Type 0
+Turn = ℕ × (HoldingRow × ℤ)
 
-module _ (hs : List HoldingRow) (zs : List ℤ) (i : ℕ) (h : i < length hs) (s : sizes_ok (length hs) (length zs) ≡ true) where
-  abbrev line : List ℕ
-  line = holding_line i (get_or hs i blank).owner (get_or zs i (pos 0))
+abbrev pub line_of : Turn → List ℕ
+line_of t = holding_line t.0 t.1.0.owner t.1.1
 
-  pub next_line : holding_lines 0 (take (i + 1) hs) (take (i + 1) zs) ≡ holding_lines 0 (take i hs) (take i zs) ++ line
-  next_line =
-      let n = sizes_inv (length hs) (length zs) s in
-      let z : 0 + i ≡ i = omega arith in
-      lines_more 0 i hs zs blank (pos 0) h (omega arith) ∙ ap (λ k. holding_lines 0 (take i hs) (take i zs) ++ holding_line k (get_or hs i blank).owner (get_or zs i (pos 0))) z
+abbrev pub lines_of : List Turn → List ℕ
+lines_of ts = flat_map line_of ts
 
-  pub next_long : length (holding_lines 0 (take (i + 1) hs) (take (i + 1) zs)) ≡ length (holding_lines 0 (take i hs) (take i zs)) + length line
-  next_long = ap length next_line ∙ length-append (holding_lines 0 (take i hs) (take i zs)) line
+abbrev pub turns : List HoldingRow → List ℤ → List Turn
+turns hs zs = enumerate_from 0 (zip hs zs)
 
-  pub line_room : (start at : ℕ) (was out : List ℕ) → Wrote was start (holding_lines 0 (take i hs) (take i zs)) at out → at ≤ start + 53 * i → Room (length was) (start + 53 * length hs) (start + length (holding_lines 0 hs zs)) → Room (length out) (at + 53) (at + length line)
-  line_room start at was out w b (inl p) = inl (omega (arith, w.len))
-  line_room start at was out w b (inr p) = inr (omega (arith, next_long, lines_front 0 (i + 1) hs zs, w.end, w.len))
+lines_from : (j : ℕ) (hs : List HoldingRow) (zs : List ℤ) → lines_of (enumerate_from j (zip hs zs)) ≡ holding_lines j hs zs
+lines_from j [] zs = refl
+lines_from j (h ∷ hs) [] = refl
+lines_from j (h ∷ hs) (z ∷ zs) =
+    let s : j + 1 ≡ suc j = omega arith in
+    ap (λ ys. holding_line j h.owner z ++ ys) (ap (λ k. lines_of (enumerate_from k (zip hs zs))) s ∙ lines_from (suc j) hs zs)
 
-  pub line_more : (start at to : ℕ) (was out next : List ℕ) → Wrote was start (holding_lines 0 (take i hs) (take i zs)) at out → Wrote out at line to next → Wrote was start (holding_lines 0 (take (i + 1) hs) (take (i + 1) zs)) to next
-  line_more start at to was out next w v = subst (λ (bs : List ℕ). Wrote was start bs to next) (sym next_line) (joined was out next start at to (holding_lines 0 (take i hs) (take i zs)) line w v)
+pub turns_long : (hs : List HoldingRow) (zs : List ℤ) → length (turns hs zs) ≡ min (length hs) (length zs)
+turns_long hs zs = length-enumerate_from 0 (zip hs zs) ∙ length-zip hs zs
+
+-- as the loop has them
+abbrev pub seen : ℕ × (Bor HoldingRow × Bor ℤ) → Turn
+seen t = (t.0, (t.1.0.now, t.1.1.now))
+
+-- holdings with their amounts, numbered, come in turn
+pub turns_come : (hs : List HoldingRow) (zs : List ℤ) (s : Enumerate (Zip (Iter HoldingRow) (Iter ℤ))) → iter_rest (zip_first (enumerate_source s)) ≡ hs → iter_rest (zip_second (enumerate_source s)) ≡ zs → enumerate_count s ≡ 0 → YieldsList (enumerate_steps (zips fronts fronts)) seen s (turns hs zs)
+turns_come hs zs s a b n = YieldsList-from_enumerate (YieldsList-from_zip (YieldsList-from_slice hs a) (YieldsList-from_slice zs b)) n
+
+-- the turns so far, and the next of them
+module _ (hs : List HoldingRow) (zs : List ℤ) (ts : List (ℕ × (Bor HoldingRow × Bor ℤ))) where
+  pub lines_all : (map seen ts ≡ turns hs zs) × (length ts ≡ length (turns hs zs)) → (lines_of (map seen ts) ≡ holding_lines 0 hs zs) × (length ts ≤ length hs)
+  lines_all e = (ap lines_of e.0 ∙ lines_from 0 hs zs, omega (arith, e.1, turns_long hs zs))
+
+  module _ (t : ℕ × (Bor HoldingRow × Bor ℤ)) where
+    pub lines_push : lines_of (map seen (ts ++ (t ∷ []))) ≡ lines_of (map seen ts) ++ line_of (seen t)
+    lines_push = ap lines_of (map-append seen ts (t ∷ [])) ∙ flat_map-append line_of (map seen ts) (seen t ∷ []) ∙ ap (λ ys. lines_of (map seen ts) ++ ys) (append-nil (line_of (seen t)))
+
+    module _ (s : sizes_ok (length hs) (length zs) ≡ true) (so_far : map seen ts ≡ take (length ts) (turns hs zs)) (next : (length ts < length (turns hs zs)) × (seen t ≡ get_or (turns hs zs) (length ts) (seen t))) where
+      pub number_small : t.0 < 1024
+      number_small =
+          let n = sizes_inv (length hs) (length zs) s in
+          let l = length-enumerate_from 0 (zip hs zs) in
+          let i = ap (λ (u : Turn). u.0) (next.1 ∙ get_or-enumerate_from 0 (zip hs zs) (length ts) (seen t) (omega arith)) in
+          omega (arith, turns_long hs zs)
+
+      pub next_long : length (lines_of (map seen ts)) + length (line_of (seen t)) ≤ length (holding_lines 0 hs zs)
+      next_long =
+          let l = length-flat_map-take line_of (turns hs zs) (length ts) (seen t) next.0 in
+          let p = ap (λ us. length (lines_of us)) so_far in
+          let q = ap (λ u. length (line_of u)) next.1 in
+          let r = ap length (lines_from 0 hs zs) in
+          omega arith
+
+      pub line_room : (o p : Output) → Appends o (lines_of (map seen ts)) p → p.len ≤ o.len + 53 * length ts → Room (length o.buffer.now) (o.len + 53 * length hs) (o.len + length (holding_lines 0 hs zs)) → Room (length p.buffer.now) (p.len + 53) (p.len + length (line_of (seen t)))
+      line_room o p w b (inl q) = inl (omega (arith, w.wrote.len, next.0, turns_long hs zs))
+      line_room o p w b (inr q) = inr (omega (arith, next_long, w.wrote.end, w.wrote.len))
+
+    pub line_more : (o p q : Output) → Appends o (lines_of (map seen ts)) p → Appends p (line_of (seen t)) q → Appends o (lines_of (map seen (ts ++ (t ∷ [])))) q
+    line_more o p q w v = subst (λ (bs : List ℕ). Appends o bs q) (sym lines_push) (appended o p q (lines_of (map seen ts)) (line_of (seen t)) w v)

@@ -1,9 +1,10 @@
 //! Decimal digits, two at a time: a division for each pair of them, and the pair from a table.
 ghost use Rattle.std.specs.Prelude.{◌≡◌, ◌+◌, ◌<◌, ◌≤◌, length, decimal};
-ghost use Rattle.buffer.specs.Writes.{Wrote};
+ghost use Rattle.buffer.specs.Appends.{Appends, HasRoom};
 ghost use Rattle.statement.specs.Groups.{pair_of, four_of};
 
 use crate::words::put_word;
+use buffer::Output;
 
 /// The two digits of each number below 100, one number after the other.
 const PAIRS: [u8; 200] = *b"0001020304050607080910111213141516171819\
@@ -21,77 +22,78 @@ fn pair(n: u32) -> [u8; 2]
     [PAIRS[at], PAIRS[at + 1]]
 }
 
-/// Writes two digits from a place on.
-fn put_pair(out: &mut [u8], at: usize, n: u32) -> usize
+/// Writes two digits.
+fn put_pair(out: &mut Output, n: u32)
     requires small { n < 100 }
-    requires room { at + 2 ≤ length out.old }
-    ensures { Wrote out.old at (pair_of n) result out.new }
+    requires room { HasRoom out.old 2 }
+    ensures { Appends out.old (pair_of n) out.new }
 {
-    put_word(out, at, &pair(n))
+    put_word(out, &pair(n));
 }
 
-/// Writes four digits from a place on, the first of which may be zeros.
-fn put_four(out: &mut [u8], at: usize, n: u32) -> usize
+/// Writes four digits, the first of which may be zeros.
+fn put_four(out: &mut Output, n: u32)
     requires small { n < 10000 }
-    requires room { at + 4 ≤ length out.old }
-    ensures { Wrote out.old at (four_of n) result out.new }
+    requires room { HasRoom out.old 4 }
+    ensures { Appends out.old (four_of n) out.new }
 {
-    let to = put_pair(out, at, n / 100);
-    put_pair(out, to, n % 100)
+    put_pair(out, n / 100);
+    put_pair(out, n % 100);
 }
 
-/// Writes a number of at most four digits from a place on.
-fn put_short(out: &mut [u8], at: usize, n: u32) -> usize
+/// Writes a number of at most four digits.
+fn put_short(out: &mut Output, n: u32)
     requires small { n < 10000 }
-    requires room { at + length (decimal n) ≤ length out.old }
-    ensures { Wrote out.old at (decimal n) result out.new }
+    requires room { HasRoom out.old (length (decimal n)) }
+    ensures { Appends out.old (decimal n) out.new }
 {
     if n < 10 {
-        return put_word(out, at, &[b'0' + n as u8]);
+        put_word(out, &[b'0' + n as u8])
+    } else if n < 100 {
+        put_pair(out, n)
+    } else if n < 1_000 {
+        put_word(out, &[b'0' + (n / 100) as u8]);
+        put_pair(out, n % 100)
+    } else {
+        put_four(out, n)
     }
-    if n < 100 {
-        return put_pair(out, at, n);
-    }
-    if n < 1_000 {
-        let to = put_word(out, at, &[b'0' + (n / 100) as u8]);
-        return put_pair(out, to, n % 100);
-    }
-    put_four(out, at, n)
 }
 
-/// Writes a number of at most eight digits from a place on.
-pub(crate) fn put_eight(out: &mut [u8], at: usize, n: u32) -> usize
+/// Writes a number of at most eight digits.
+pub(crate) fn put_eight(out: &mut Output, n: u32)
     requires small { n < 100000000 }
-    requires room { at + length (decimal n) ≤ length out.old }
-    ensures { Wrote out.old at (decimal n) result out.new }
+    requires room { HasRoom out.old (length (decimal n)) }
+    ensures { Appends out.old (decimal n) out.new }
 {
     if n < 10_000 {
-        return put_short(out, at, n);
-    }
-    let to = put_short(out, at, n / 10_000);
-    put_four(out, to, n % 10_000)
-}
-
-/// Writes a number of any length from a place on.
-fn put_long(out: &mut [u8], at: usize, n: u64) -> usize
-    requires { at + length (decimal n) ≤ length out.old }
-    ensures { Wrote out.old at (decimal n) result out.new }
-{
-    if n < 100_000_000 {
-        return put_eight(out, at, n as u32);
-    }
-    let to = put_long(out, at, n / 10_000);
-    put_four(out, to, (n % 10_000) as u32)
-}
-
-/// Writes a number from a place on. Most have at most eight digits, and are written without the recursion's cost.
-pub(crate) fn put_decimal(out: &mut [u8], at: usize, n: u64) -> usize
-    requires { at + length (decimal n) ≤ length out.old }
-    ensures { Wrote out.old at (decimal n) result out.new }
-{
-    if n < 100_000_000 {
-        put_eight(out, at, n as u32)
+        put_short(out, n)
     } else {
-        put_long(out, at, n)
+        put_short(out, n / 10_000);
+        put_four(out, n % 10_000)
+    }
+}
+
+/// Writes a number of any length.
+fn put_long(out: &mut Output, n: u64)
+    requires { HasRoom out.old (length (decimal n)) }
+    ensures { Appends out.old (decimal n) out.new }
+{
+    if n < 100_000_000 {
+        put_eight(out, n as u32)
+    } else {
+        put_long(out, n / 10_000);
+        put_four(out, (n % 10_000) as u32)
+    }
+}
+
+/// Writes a number. Most have at most eight digits, and are written without the recursion's cost.
+pub(crate) fn put_decimal(out: &mut Output, n: u64)
+    requires { HasRoom out.old (length (decimal n)) }
+    ensures { Appends out.old (decimal n) out.new }
+{
+    if n < 100_000_000 {
+        put_eight(out, n as u32)
+    } else {
+        put_long(out, n)
     }
 }

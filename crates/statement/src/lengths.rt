@@ -34,8 +34,8 @@ pub(crate) fn lines_len(holdings: &[HoldingRow], amounts: &[i64]) -> usize
     ensures bound { result ≤ 87040 }
 {
     let mut total = 0;
-    for (i, holding) in holdings.iter().enumerate() {
-        total += holding_len(i, holding.owner, &amounts[i]);
+    for (i, (holding, amount)) in holdings.iter().zip(amounts).enumerate() {
+        total += holding_len(i, holding.owner, amount);
     }
     total
 }

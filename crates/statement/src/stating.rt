@@ -6,11 +6,10 @@ ghost use Rattle.statement.specs.Room.{Room};
 use crate::figures::HourFigures;
 use crate::lengths::{hour_len, lines_len};
 use crate::lines::{put_hour, put_lines};
+use buffer::Output;
+use format::MOST_HOLDINGS;
 use refusals::{Cause, Refusal};
 use rows::{Day, HoldingRow};
-
-/// The most holdings of an hour.
-const MOST_HOLDINGS: usize = 1_024;
 
 /// No line of a holding is longer: a place of four digits, an owner of five, and an amount of twenty bytes.
 const LONGEST_LINE: usize = 53;
@@ -61,6 +60,11 @@ pub fn write_statement(
             place: 0,
         });
     }
-    let at = put_lines(out, 0, holdings, amounts);
-    Ok(put_hour(out, at, day.hour, figures))
+    let mut text = Output {
+        buffer: out,
+        len: 0,
+    };
+    put_lines(&mut text, holdings, amounts);
+    put_hour(&mut text, day.hour, figures);
+    Ok(text.len)
 }

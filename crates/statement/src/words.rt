@@ -1,13 +1,14 @@
-ghost use Rattle.std.specs.Prelude.{◌+◌, ◌≤◌, length};
-ghost use Rattle.buffer.specs.Writes.{Wrote};
+ghost use Rattle.std.specs.Prelude.{length};
+ghost use Rattle.buffer.specs.Appends.{Appends, HasRoom};
 
-/// Writes a word from a place on, for which there is room, and answers where it ends. The room is known for a whole line,
-/// so it is not tested for each of its words.
-pub(crate) fn put_word(out: &mut [u8], at: usize, word: &[u8]) -> usize
-    requires { at + length word.now ≤ length out.old }
-    ensures { Wrote out.old at word.now result out.new }
+use buffer::Output;
+
+/// Writes a word, for which there is room. The room is known for a whole line, so it is not tested for each of its words.
+pub(crate) fn put_word(out: &mut Output, word: &[u8])
+    requires { HasRoom out.old (length word.now) }
+    ensures { Appends out.old word.now out.new }
 {
-    let to = at + word.len();
-    out[at..to].copy_from_slice(word);
-    to
+    let to = out.len + word.len();
+    out.buffer[out.len..to].copy_from_slice(word);
+    out.len = to;
 }

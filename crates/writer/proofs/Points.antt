@@ -2,15 +2,21 @@
 use Rattle.std.proofs.Common.{◌≡◌, ℕ, zero, suc, ◌+◌, ◌-◌, ◌*◌, ◌<◌, ◌≤◌, List, [], ◌∷◌, ◌++◌, length, get_or, take, drop, ℤ, sym, ap, ◌∙◌, subst, mul-le-mul_right, suc-mul, arith, length-drop}
 use Rattle.std.proofs.lemmas.List.{drop-drop, length-take-le}
 use Rattle.rows.specs.declared.plain.PointRow.{PointRow}
-use Rattle.codec.specs.Bytes.{be2}
+use Rattle.codec.specs.Bytes.{be2, twos2}
 use Rattle.codec.specs.Records.{Placed, encode_point, encode_factors, encode_placed}
 use Rattle.codec.proofs.Both.{placed_length}
 use Rattle.records.specs.Frames.{framed}
-use Rattle.buffer.specs.Writes.{Wrote}
-use Rattle.buffer.proofs.Joins.{joined}
-use Rattle.format.specs.Hours.{records_of, placed}
+use Rattle.buffer.specs.Appends.{Appends, HasRoom}
+use Rattle.buffer.specs.declared.output.Output.{Output}
+use Rattle.buffer.proofs.Joins.{appended}
+use Rattle.format.specs.Hours.{placed}
 use Rattle.format.proofs.Ways.{placed_long}
-use Rattle.writer.proofs.Runs.{record_room, record_more}
+use Rattle.writer.proofs.Runs.{factors_flat, next_room, next_put}
+use Rattle.codec.proofs.Pairs.{encoded_length}
+use Rattle.std.specs.List.{flat_map}
+
+abbrev pub record_of : Placed → List ℕ
+record_of x = framed 80 (encode_placed x)
 
 abbrev placed_row : PointRow → List ℤ → Placed
 placed_row p row = record { point = p; factors = row }
@@ -40,13 +46,6 @@ module _ (n : ℕ) (ps : List PointRow) (fs : List ℤ) (i first : ℕ) (p : Poi
       let h : suc i * n ≤ length ps * n = mul-le-mul_right {m = suc i} {n = length ps} n (omega arith) in
       omega arith
 
-  pub row_next : first + n ≡ (i + 1) * n
-  row_next =
-      let m = suc-mul i n in
-      let s : i + 1 ≡ suc i = omega arith in
-      let q = ap (λ j. j * n) s in
-      omega arith
-
   abbrev row : List ℤ
   row = take (first + n - first) (drop first fs)
 
@@ -64,21 +63,26 @@ module _ (n : ℕ) (ps : List PointRow) (fs : List ℤ) (i first : ℕ) (p : Poi
   long : i < length (placed n ps fs)
   long = let l = placed_long n ps fs in omega arith
 
-  module _ (was out : List ℕ) (start at : ℕ) (w : Wrote was start (records_of 80 encode_placed (take i (placed n ps fs))) at out) (room : start + length (records_of 80 encode_placed (placed n ps fs)) ≤ length was) where
-    whole_room : at + (16 + 2 * n) ≤ length out
-    whole_room =
-        let r = record_room 80 encode_placed (placed n ps fs) i (placed_row p row) long at_i was out start at w room in
+  -- after the records of i points there is room for the next, and with it one more is written
+  module _ (o q : Output) (w : Appends o (flat_map record_of (take i (placed n ps fs))) q) where
+    whole_room : HasRoom o (length (flat_map record_of (placed n ps fs))) → HasRoom q (16 + 2 * n)
+    whole_room h =
+        let r = next_room record_of (placed n ps fs) i (placed_row p row) long at_i o q w h in
         let l = placed_length (placed_row p row) in
         let m = row_long in
         omega arith
 
-    pub head_room : at + 16 ≤ length out
-    head_room = let r = whole_room in omega arith
+    pub head_room : HasRoom o (length (flat_map record_of (placed n ps fs))) → HasRoom q 16
+    head_room h = let r = whole_room h in omega arith
 
-    pub row_room : (to : ℕ) (mid : List ℕ) → Wrote out at (be2 (14 + 2 * n) ++ (80 ∷ encode_point p)) to mid → to + 2 * length row ≤ length mid
-    row_room to mid v = let r = whole_room in let m = row_long in omega (arith, v.end, v.len)
+    pub row_room : (to : Output) → Appends q (be2 (14 + 2 * n) ++ (80 ∷ encode_point p)) to → HasRoom o (length (flat_map record_of (placed n ps fs))) → HasRoom to (length (flat_map twos2 row))
+    row_room to v h =
+        let r = whole_room h in
+        let m = row_long in
+        let e = ap length (factors_flat row) in
+        omega (arith, v.wrote.end, v.wrote.len, encoded_length row)
 
-    pub point_more : (to end : ℕ) (mid next : List ℕ) → Wrote out at (be2 (14 + 2 * n) ++ (80 ∷ encode_point p)) to mid → Wrote mid to (encode_factors row) end next → Wrote was start (records_of 80 encode_placed (take (i + 1) (placed n ps fs))) end next
-    point_more to end mid next v x =
-        record_more 80 encode_placed (placed n ps fs) i (placed_row p row) long at_i was out start at w end next
-        (subst (λ (bs : List ℕ). Wrote out at bs end next) (parts n p row row_long) (joined out mid next at to end (be2 (14 + 2 * n) ++ (80 ∷ encode_point p)) (encode_factors row) v x))
+    pub point_more : (to end : Output) → Appends q (be2 (14 + 2 * n) ++ (80 ∷ encode_point p)) to → Appends to (flat_map twos2 row) end → Appends o (flat_map record_of (take (i + 1) (placed n ps fs))) end
+    point_more to end v x =
+        next_put record_of (placed n ps fs) i (placed_row p row) long at_i o q w end
+        (subst (λ (bs : List ℕ). Appends q bs end) (ap (λ ys. (be2 (14 + 2 * n) ++ (80 ∷ encode_point p)) ++ ys) (factors_flat row) ∙ parts n p row row_long) (appended q to end (be2 (14 + 2 * n) ++ (80 ∷ encode_point p)) (flat_map twos2 row) v x))

@@ -1,49 +1,57 @@
-//! Rows that are all of their record's fields.
-ghost use Rattle.std.specs.Prelude.{◌≡◌, ℕ, ◌+◌, ◌≤◌, List, length};
+//! Entries of an hour's tables with bytes of their own in a package.
+ghost use Rattle.std.specs.Prelude.{◌≡◌, ℕ, List, length};
+ghost use Rattle.codec.specs.Bytes.{twos2};
 ghost use Rattle.codec.specs.Records.{encode_constraint, encode_holding, HoldingFits};
 ghost use Rattle.records.specs.Frames.{framed};
-ghost use Rattle.buffer.specs.Writes.{Wrote};
+ghost use Rattle.buffer.specs.Appends.{Appends, HasRoom};
 
-use buffer::put;
-use codec::{constraint_bytes, holding_bytes};
+use buffer::Output;
+use codec::{constraint_bytes, factor_bytes, holding_bytes};
 use rows::{ConstraintRow, HoldingRow};
 
-/// A row with its record: a letter and fields. What its figures' types say of it is `fits`.
+/// An entry with its bytes. What its figures' types say of it is `fits`.
 pub(crate) trait Recorded {
-    ghost letter: { ℕ };
-
-    ghost fields: { Self → List ℕ };
+    ghost bytes: { Self → List ℕ };
 
     ghost fits: { Self → Type 0 };
 
-    fn put_record(&self, out: &mut [u8], at: usize) -> usize
-        requires { at + length (framed letter (fields self.now)) ≤ length out.old }
-        ensures wrote { Wrote out.old at (framed letter (fields self.now)) result out.new }
+    fn put_record(&self, out: &mut Output)
+        requires { HasRoom out.old (length (bytes self.now)) }
+        ensures wrote { Appends out.old (bytes self.now) out.new }
         ensures fits { fits self.now };
 }
 
+/// A constraint is a record of its own.
 impl Recorded for ConstraintRow {
-    ghost letter = { 67 };
-
-    ghost fields = { encode_constraint };
+    ghost bytes = { λ r. framed 67 (encode_constraint r) };
 
     ghost fits = { λ _. Unit {0} };
 
-    fn put_record(&self, out: &mut [u8], at: usize) -> usize {
+    fn put_record(&self, out: &mut Output) {
         let [a, b, c, d, e, f] = constraint_bytes(self);
-        put(out, at, &[0, 7, b'C', a, b, c, d, e, f])
+        out.put(&[0, 7, b'C', a, b, c, d, e, f]);
     }
 }
 
-impl Recorded for HoldingRow {
-    ghost letter = { 72 };
+/// A shift factor is a part of its point's record.
+impl Recorded for i16 {
+    ghost bytes = { twos2 };
 
-    ghost fields = { encode_holding };
+    ghost fits = { λ _. Unit {0} };
+
+    fn put_record(&self, out: &mut Output) {
+        out.put(&factor_bytes(*self));
+    }
+}
+
+/// A holding is a record of its own.
+impl Recorded for HoldingRow {
+    ghost bytes = { λ r. framed 72 (encode_holding r) };
 
     ghost fits = { HoldingFits };
 
-    fn put_record(&self, out: &mut [u8], at: usize) -> usize {
-        let to = put(out, at, &[0, 21, b'H']);
-        put(out, to, &holding_bytes(self))
+    fn put_record(&self, out: &mut Output) {
+        out.put(&[0, 21, b'H']);
+        out.put(&holding_bytes(self));
     }
 }

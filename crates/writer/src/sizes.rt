@@ -25,16 +25,10 @@ pub(crate) fn bad_entry(
 ) -> Option<usize>
     ensures { result ≡ bad_in constraints.now points.now factors.now holdings.now }
 {
-    if let Some(place) = first_bad(constraints) {
-        return Some(place);
-    }
-    if let Some(place) = first_bad(points) {
-        return Some(place);
-    }
-    if let Some(place) = first_bad(factors) {
-        return Some(place);
-    }
-    first_bad(holdings)
+    first_bad(constraints)
+        .or_else(|| first_bad(points))
+        .or_else(|| first_bad(factors))
+        .or_else(|| first_bad(holdings))
 }
 
 /// The bytes of the package of an hour with so many constraints, points and holdings.

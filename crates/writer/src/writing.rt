@@ -5,14 +5,14 @@ ghost use Rattle.rows.specs.Plain.{plain_day};
 ghost use Rattle.codec.specs.Bytes.{be4};
 ghost use Rattle.codec.specs.Records.{encode_day, answered, HoldingFits};
 ghost use Rattle.records.specs.Frames.{framed};
-ghost use Rattle.buffer.specs.Writes.{Wrote};
+ghost use Rattle.buffer.specs.Appends.{Appends, HasRoom};
 ghost use Rattle.format.specs.Hours.{tables, hour_of, package_of};
 ghost use Rattle.format.specs.Reading.{reads_tables};
 ghost use Rattle.format.specs.Writing.{sizes_ok, writes, written};
 
 use crate::pieces::{put_points, put_records};
 use crate::sizes::{bad_entry, package_length, sizes_ok};
-use buffer::put;
+use buffer::Output;
 use codec::day_bytes;
 use refusals::{Cause, Refusal};
 use rows::{ConstraintRow, Day, HoldingRow, PointRow};
@@ -35,20 +35,20 @@ fn put_package(
     points: &[PointRow],
     factors: &[i16],
     holdings: &[HoldingRow],
-    out: &mut [u8],
+    out: &mut Output,
     long: usize,
-) -> usize
+)
     requires sizes { sizes_ok (tables (plain_day day.now) constraints.now points.now factors.now holdings.now) ≡ true }
     requires long { long ≡ length (package_of (hour_of (tables (plain_day day.now) constraints.now points.now factors.now holdings.now))) }
     requires small { long ≤ 44340 }
-    requires room { long ≤ length out.old }
-    ensures wrote { Wrote out.old 0 (package_of (hour_of (tables (plain_day day.now) constraints.now points.now factors.now holdings.now))) result out.new }
+    requires room { HasRoom out.old long }
+    ensures wrote { Appends out.old (package_of (hour_of (tables (plain_day day.now) constraints.now points.now factors.now holdings.now))) out.new }
     ensures fits { AllByRecursion HoldingFits holdings.now }
 {
-    let a = put(out, 0, &package_head(day, long as u32 - 4));
-    let b = put_records(constraints, out, a);
-    let c = put_points(points, factors, constraints.len(), out, b);
-    put_records(holdings, out, c)
+    out.put(&package_head(day, long as u32 - 4));
+    put_records(constraints, out);
+    put_points(points, factors, constraints.len(), out);
+    put_records(holdings, out);
 }
 
 /// Writes the package of an hour into the caller's buffer and answers its length, or refuses by the first test that fails,
@@ -89,5 +89,18 @@ pub fn write_package(
             place: 0,
         });
     }
-    Ok(put_package(day, constraints, points, factors, holdings, out, long))
+    let mut package = Output {
+        buffer: out,
+        len: 0,
+    };
+    put_package(
+        day,
+        constraints,
+        points,
+        factors,
+        holdings,
+        &mut package,
+        long,
+    );
+    Ok(package.len)
 }

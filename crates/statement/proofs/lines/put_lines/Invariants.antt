@@ -1,7 +1,7 @@
-use Rattle.std.proofs.Common.{◌+◌, ◌*◌, ◌≤◌, take}
-use Rattle.buffer.specs.Writes.{Wrote}
-use Rattle.statement.specs.Lines.{holding_lines}
+use Rattle.std.proofs.Common.{◌+◌, ◌*◌, ◌≤◌, length, map}
+use Rattle.buffer.specs.Appends.{Appends}
+use Rattle.statement.proofs.Longs.{lines_of, seen}
 use Rattle.statement.proofs.lines.put_lines.Given as goal
 
 abbrev pub invariant-loop-i : goal.invariant-loop-i
-invariant-loop-i l = Wrote l.initial.out l.start (holding_lines 0 (take l.i l.holdings) (take l.i l.amounts)) l.at l.out × (l.at ≤ l.start + 53 * l.i)
+invariant-loop-i l = Appends l.initial.out (lines_of (map seen l.yielded)) l.out × (l.out.len ≤ l.initial.out.len + 53 * length l.yielded)

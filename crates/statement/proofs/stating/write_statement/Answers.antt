@@ -1,9 +1,10 @@
-use Rattle.std.proofs.Common.{◌≡◌, ℕ, ◌+◌, ◌*◌, ◌<◌, ◌≤◌, true, false, cond, leb, List, length, ℤ, Ok, Err, sym, refl, ap, ◌∙◌, inl, inr, arith, length-append, le-leb}
+use Rattle.std.proofs.Common.{◌≡◌, ℕ, ◌+◌, ◌*◌, ◌<◌, ◌≤◌, true, false, cond, leb, List, length, ℤ, Ok, Err, sym, refl, ap, ◌∙◌, inl, inr, arith, length-append, rules, le-leb}
 use borrow.Author.Tests.{lt-leb}
 use Rattle.refusals.specs.Numbers.{refused_at}
 use Rattle.rows.specs.declared.plain.HoldingRow.{HoldingRow}
-use Rattle.buffer.specs.Writes.{Wrote}
-use Rattle.buffer.proofs.Joins.{joined, whole}
+use Rattle.buffer.specs.Appends.{Appends}
+use Rattle.buffer.specs.declared.output.Output.{Output}
+use Rattle.buffer.proofs.Joins.{appended, whole}
 use Rattle.statement.specs.declared.figures.HourFigures.{HourFigures}
 use Rattle.statement.specs.Lines.{holding_lines, hour_line_of, statement_of, sizes_ok, stated, length_of, written}
 use Rattle.statement.specs.Room.{Room}
@@ -30,9 +31,9 @@ module _ (n : ℕ) (hs : List HoldingRow) (zs : List ℤ) (f : HourFigures) (roo
       let b : leb (length (statement_of n hs zs f)) room ≡ true = le-leb _ _ (omega arith) in
       sized ∙ ap (λ x. cond x (Ok (statement_of n hs zs f)) (Err (refused_at 7 0))) b
 
-  both : (was mid out : List ℕ) (at to : ℕ) → Wrote was 0 (holding_lines 0 hs zs) at mid → Wrote mid at (hour_line_of n f) to out → Wrote was 0 (statement_of n hs zs f) to out
+  both : (o p q : Output) → Appends o (holding_lines 0 hs zs) p → Appends p (hour_line_of n f) q → Appends o (statement_of n hs zs f) q
   unfolding statement_of
-  both was mid out at to w v = joined was mid out 0 at to (holding_lines 0 hs zs) (hour_line_of n f) w v
+  both o p q w v = appended o p q (holding_lines 0 hs zs) (hour_line_of n f) w v
 
 pub returns-then-not-has_room : goal.returns-then-not-has_room
 returns-then-not-has_room c =
@@ -45,8 +46,8 @@ without : (room longest long hour : ℕ) → Room room (longest + hour) (long + 
 without room longest long hour (inl p) = inl (omega arith)
 without room longest long hour (inr p) = inr (omega arith)
 
-pub put_lines-at-requires : goal.put_lines-at-requires
-put_lines-at-requires c =
+pub put_lines-requires : goal.put_lines-requires
+put_lines-requires c =
     record {
       sizes = sym c.if-not-sizes_ok.ensures;
       room = without (length c.args.out.now) (53 * length c.args.holdings.now) (length (holding_lines 0 c.args.holdings.now c.args.amounts.now)) c.hour_len-hour_line.result (c.if-not-has_room.ensures.fits refl);
@@ -54,18 +55,18 @@ put_lines-at-requires c =
 
 pub put_hour-requires : goal.put_hour-requires
 put_hour-requires c =
-    let w = c.put_lines-at.ensures.wrote in
-    let e = has_room (length c.args.out.now) (53 * length c.args.holdings.now + c.hour_len-hour_line.result) (length (holding_lines 0 c.args.holdings.now c.args.amounts.now) + c.hour_len-hour_line.result) (omega (arith, w.end, c.put_lines-at.ensures.bound)) (c.if-not-has_room.ensures.fits refl) in
+    let w = c.put_lines.ensures.wrote.wrote in
+    let e = has_room (length c.args.out.now) (53 * length c.args.holdings.now + c.hour_len-hour_line.result) (length (holding_lines 0 c.args.holdings.now c.args.amounts.now) + c.hour_len-hour_line.result) (omega (arith, w.end, c.put_lines.ensures.bound)) (c.if-not-has_room.ensures.fits refl) in
     omega (arith, w.end, w.len, c.hour_len-hour_line.ensures.value)
 
 pub returns : goal.returns
 returns c =
     let s : sizes_ok (length c.args.holdings.now) (length c.args.amounts.now) ≡ true = sym c.if-not-sizes_ok.ensures in
-    let v = c.put_lines-at.ensures.wrote in
-    let m = has_room (length c.args.out.now) (53 * length c.args.holdings.now + c.hour_len-hour_line.result) (length (holding_lines 0 c.args.holdings.now c.args.amounts.now) + c.hour_len-hour_line.result) (omega (arith, v.end, c.put_lines-at.ensures.bound)) (c.if-not-has_room.ensures.fits refl) in
+    let v = c.put_lines.ensures.wrote in
+    let m = has_room (length c.args.out.now) (53 * length c.args.holdings.now + c.hour_len-hour_line.result) (length (holding_lines 0 c.args.holdings.now c.args.amounts.now) + c.hour_len-hour_line.result) (omega (arith, v.wrote.end, c.put_lines.ensures.bound)) (c.if-not-has_room.ensures.fits refl) in
     let e = good c.args.day.now.hour c.args.holdings.now c.args.amounts.now c.args.figures.now (length c.args.out.now) s (omega (arith, c.hour_len-hour_line.ensures.value)) in
-    let w = whole c.args.out.now (statement_of c.args.day.now.hour c.args.holdings.now c.args.amounts.now c.args.figures.now) c.put_hour.result c.put_hour.new.out (both c.args.day.now.hour c.args.holdings.now c.args.amounts.now c.args.figures.now (length c.args.out.now) s c.args.out.now c.put_lines-at.new.out c.put_hour.new.out c.put_lines-at.result c.put_hour.result v c.put_hour.ensures) in
-    record {
-      answer = ap (λ (m : ℕ). Ok m) w.0 ∙ ap length_of (sym e);
-      buffer = w.1 ∙ ap (λ r. written r c.args.out.now) (sym e);
-    }
+    let b = both c.args.day.now.hour c.args.holdings.now c.args.amounts.now c.args.figures.now (length c.args.out.now) s _ _ _ v c.put_hour.ensures in
+    let w = whole c.args.out.now (statement_of c.args.day.now.hour c.args.holdings.now c.args.amounts.now c.args.figures.now) c.put_hour.new.out.len c.put_hour.new.out.buffer.now b.wrote in
+    let z : c.put_hour.new.out.buffer.now ≡ written (stated c.args.day.now.hour c.args.holdings.now c.args.amounts.now c.args.figures.now (length c.args.out.now)) c.args.out.now = w.1 ∙ ap (λ r. written r c.args.out.now) (sym e) in
+    let n = b.same in
+    record { answer = ap (λ (m : ℕ). Ok m) w.0 ∙ ap length_of (sym e); buffer = search rules }

@@ -3,4 +3,4 @@ use Rattle.std.proofs.lemmas.Slice.{overwrites}
 use Rattle.statement.proofs.words.put_word.Goals as goal
 
 pub returns : goal.returns
-returns c = record { end = search rules; front = search (rules, overwrites); rest = search (rules, overwrites); len = search rules }
+returns c = record { same = search rules; wrote = record { end = search rules; front = search (rules, overwrites); rest = search (rules, overwrites); len = search rules } }

@@ -1,10 +1,9 @@
-use Rattle.std.proofs.Common.{◌≡◌, ◌*◌, take}
-use Rattle.codec.specs.Records.{encode_placed}
-use Rattle.buffer.specs.Writes.{Wrote}
-use Rattle.format.specs.Hours.{records_of, placed}
+use Rattle.std.proofs.Common.{take}
+use Rattle.std.specs.List.{flat_map}
+use Rattle.buffer.specs.Appends.{Appends}
+use Rattle.format.specs.Hours.{placed}
+use Rattle.writer.proofs.Points.{record_of}
 use Rattle.writer.proofs.pieces.put_points.Given as goal
 
-abbrev pub invariant-loop-point : goal.invariant-loop-point
-invariant-loop-point l =
-    (l.first ≡ l.point-index * l.columns)
-    × Wrote l.initial.out l.start (records_of 80 encode_placed (take l.point-index (placed l.columns l.points l.factors))) l.at l.out
+abbrev pub invariant-loop-i : goal.invariant-loop-i
+invariant-loop-i l = Appends l.initial.out (flat_map record_of (take l.i (placed l.columns l.points l.factors))) l.out

@@ -1,58 +1,65 @@
-use Rattle.std.proofs.Common.{◌≡◌, ℕ, ◌+◌, ◌≤◌, List, length, ℤ, ap, subst, arith}
+use Rattle.std.proofs.Common.{◌≡◌, ℕ, List, length, ℤ, ap, subst, arith}
 use Rattle.rows.specs.declared.plain.ConstraintRow.{ConstraintRow}
 use Rattle.rows.specs.declared.plain.DayRow.{DayRow}
 use Rattle.rows.specs.declared.plain.HoldingRow.{HoldingRow}
 use Rattle.rows.specs.declared.plain.PointRow.{PointRow}
 use Rattle.rows.specs.Plain.{plain_day}
-use Rattle.buffer.specs.Writes.{Wrote}
-use Rattle.buffer.proofs.Joins.{joined}
-use Rattle.format.specs.Hours.{Hour, tables, hour_of, package_of}
-use Rattle.format.proofs.Ways.{sizes_inv}
+use Rattle.std.specs.List.{flat_map}
+use Rattle.codec.specs.Records.{encode_constraint, encode_holding}
+use Rattle.records.specs.Frames.{framed}
+use Rattle.buffer.specs.Appends.{Appends, HasRoom}
+use Rattle.buffer.specs.declared.output.Output.{Output}
+use Rattle.buffer.proofs.Joins.{appended}
+use Rattle.format.specs.Hours.{Hour, tables, hour_of, records_of, package_of}
+use Rattle.writer.proofs.Runs.{records_flat}
 use Rattle.writer.proofs.Whole.{head_of, package_parts, package_long}
 use Rattle.writer.proofs.writing.put_package.Goals as goal
 
 abbrev hour_by : DayRow → List ConstraintRow → List PointRow → List ℤ → List HoldingRow → Hour
 hour_by d cs ps fs hs = hour_of (tables d cs ps fs hs)
 
-pub overflow_cast-long : goal.overflow_cast-long
-overflow_cast-long c = record { fits = omega (arith, c.requires.small) }
-
 pub overflow_sub-long : goal.overflow_sub-long
 overflow_sub-long c = let l = package_long (hour_by (plain_day c.args.day.now) c.args.constraints.now c.args.points.now c.args.factors.now c.args.holdings.now) in omega (arith, c.requires.long)
 
 -- the head was written
-headed : (h : Hour) (long : ℕ) (out bytes mid : List ℕ) (to : ℕ) → bytes ≡ head_of h long → (0 + length bytes ≤ length out → Wrote out 0 bytes to mid) → long ≡ length (package_of h) → long ≤ length out → Wrote out 0 (head_of h long) to mid
-headed h long out bytes mid to e put l room =
+headed : (h : Hour) (long : ℕ) (o mid : Output) (bytes : List ℕ) → bytes ≡ head_of h long → (HasRoom o (length bytes) → Appends o bytes mid) → long ≡ length (package_of h) → HasRoom o long → Appends o (head_of h long) mid
+headed h long o mid bytes e put l room =
     let n = package_long h in
-    subst (λ (bs : List ℕ). Wrote out 0 bs to mid) e (put (omega (arith, ap length e)))
+    subst (λ (bs : List ℕ). Appends o bs mid) e (put (omega (arith, ap length e)))
 
-pub put_records-b-requires : goal.put_records-b-requires
-put_records-b-requires c =
-    let l = package_long (hour_by (plain_day c.args.day.now) c.args.constraints.now c.args.points.now c.args.factors.now c.args.holdings.now) in
-    let w = headed (hour_by (plain_day c.args.day.now) c.args.constraints.now c.args.points.now c.args.factors.now c.args.holdings.now) c.args.long c.args.out.now c.package_head.result c.put-a.new.out c.put-a.result c.package_head.ensures c.put-a.ensures.wrote c.requires.long c.requires.room in
-    omega (arith, c.requires.long, c.requires.room, w.end, w.len)
+-- what each piece is, as the definition of a package has it
+constraints_put : (cs : List ConstraintRow) (o p : Output) → Appends o (flat_map (λ r. framed 67 (encode_constraint r)) cs) p → Appends o (records_of 67 encode_constraint cs) p
+constraints_put cs o p w = subst (λ (bs : List ℕ). Appends o bs p) (records_flat 67 encode_constraint cs) w
 
-pub put_points-c-requires : goal.put_points-c-requires
-put_points-c-requires c =
-    let l = package_long (hour_by (plain_day c.args.day.now) c.args.constraints.now c.args.points.now c.args.factors.now c.args.holdings.now) in
-    let w = headed (hour_by (plain_day c.args.day.now) c.args.constraints.now c.args.points.now c.args.factors.now c.args.holdings.now) c.args.long c.args.out.now c.package_head.result c.put-a.new.out c.put-a.result c.package_head.ensures c.put-a.ensures.wrote c.requires.long c.requires.room in
-    let v = c.put_records-b.ensures.wrote in
-    let n = sizes_inv (tables (plain_day c.args.day.now) c.args.constraints.now c.args.points.now c.args.factors.now c.args.holdings.now) c.requires.sizes in
-    record { few = n.0; rows = n.3; room = omega (arith, c.requires.long, c.requires.room, w.end, w.len, v.end, v.len) }
+holdings_put : (hs : List HoldingRow) (o p : Output) → Appends o (flat_map (λ r. framed 72 (encode_holding r)) hs) p → Appends o (records_of 72 encode_holding hs) p
+holdings_put hs o p w = subst (λ (bs : List ℕ). Appends o bs p) (records_flat 72 encode_holding hs) w
 
 pub put_records-requires : goal.put_records-requires
 put_records-requires c =
     let l = package_long (hour_by (plain_day c.args.day.now) c.args.constraints.now c.args.points.now c.args.factors.now c.args.holdings.now) in
-    let w = headed (hour_by (plain_day c.args.day.now) c.args.constraints.now c.args.points.now c.args.factors.now c.args.holdings.now) c.args.long c.args.out.now c.package_head.result c.put-a.new.out c.put-a.result c.package_head.ensures c.put-a.ensures.wrote c.requires.long c.requires.room in
-    let v = c.put_records-b.ensures.wrote in
-    let x = c.put_points-c.ensures in
-    omega (arith, c.requires.long, c.requires.room, w.end, w.len, v.end, v.len, x.end, x.len)
+    let w = headed (hour_by (plain_day c.args.day.now) c.args.constraints.now c.args.points.now c.args.factors.now c.args.holdings.now) c.args.long c.args.out.now c.put.new.self c.package_head.result c.package_head.ensures c.put.ensures.wrote c.requires.long c.requires.room in
+    let e = ap length (records_flat 67 encode_constraint c.args.constraints.now) in
+    omega (arith, c.requires.long, c.requires.room, w.wrote.end, w.wrote.len)
 
-pub returns : goal.returns
-returns c =
-    let w = headed (hour_by (plain_day c.args.day.now) c.args.constraints.now c.args.points.now c.args.factors.now c.args.holdings.now) c.args.long c.args.out.now c.package_head.result c.put-a.new.out c.put-a.result c.package_head.ensures c.put-a.ensures.wrote c.requires.long c.requires.room in
-    let j = joined _ _ _ _ _ _ _ _ w (joined _ _ _ _ _ _ _ _ c.put_records-b.ensures.wrote (joined _ _ _ _ _ _ _ _ c.put_points-c.ensures c.put_records.ensures.wrote)) in
-    record {
-      wrote = subst (λ (bs : List ℕ). Wrote c.args.out.now 0 bs c.put_records.result c.put_records.new.out) (package_parts (hour_by (plain_day c.args.day.now) c.args.constraints.now c.args.points.now c.args.factors.now c.args.holdings.now) c.args.long c.requires.long) j;
-      fits = c.put_records.ensures.fits;
-    }
+pub put_points-requires-clause-room : goal.put_points-requires-clause-room
+put_points-requires-clause-room c =
+    let l = package_long (hour_by (plain_day c.args.day.now) c.args.constraints.now c.args.points.now c.args.factors.now c.args.holdings.now) in
+    let w = headed (hour_by (plain_day c.args.day.now) c.args.constraints.now c.args.points.now c.args.factors.now c.args.holdings.now) c.args.long c.args.out.now c.put.new.self c.package_head.result c.package_head.ensures c.put.ensures.wrote c.requires.long c.requires.room in
+    let v = constraints_put c.args.constraints.now _ _ c.put_records.ensures.wrote in
+    omega (arith, c.requires.long, c.requires.room, w.wrote.end, w.wrote.len, v.wrote.end, v.wrote.len)
+
+pub put_records-requires-2 : goal.put_records-requires-2
+put_records-requires-2 c =
+    let l = package_long (hour_by (plain_day c.args.day.now) c.args.constraints.now c.args.points.now c.args.factors.now c.args.holdings.now) in
+    let w = headed (hour_by (plain_day c.args.day.now) c.args.constraints.now c.args.points.now c.args.factors.now c.args.holdings.now) c.args.long c.args.out.now c.put.new.self c.package_head.result c.package_head.ensures c.put.ensures.wrote c.requires.long c.requires.room in
+    let v = constraints_put c.args.constraints.now _ _ c.put_records.ensures.wrote in
+    let x = c.put_points.ensures in
+    let e = ap length (records_flat 72 encode_holding c.args.holdings.now) in
+    omega (arith, c.requires.long, c.requires.room, w.wrote.end, w.wrote.len, v.wrote.end, v.wrote.len, x.wrote.end, x.wrote.len)
+
+pub returns-clause-wrote : goal.returns-clause-wrote
+returns-clause-wrote c =
+    let w = headed (hour_by (plain_day c.args.day.now) c.args.constraints.now c.args.points.now c.args.factors.now c.args.holdings.now) c.args.long c.args.out.now c.put.new.self c.package_head.result c.package_head.ensures c.put.ensures.wrote c.requires.long c.requires.room in
+    let v = constraints_put c.args.constraints.now _ _ c.put_records.ensures.wrote in
+    let h = holdings_put c.args.holdings.now _ _ c.put_records-2.ensures.wrote in
+    subst (λ (bs : List ℕ). Appends c.args.out.now bs c.put_records-2.new.out) (package_parts (hour_by (plain_day c.args.day.now) c.args.constraints.now c.args.points.now c.args.factors.now c.args.holdings.now) c.args.long c.requires.long) (appended _ _ _ _ _ w (appended _ _ _ _ _ v (appended _ _ _ _ _ c.put_points.ensures h)))
