@@ -8,6 +8,7 @@ mod close;
 mod closed;
 mod dues;
 mod handed_back;
+mod held_hour;
 mod hour;
 mod hour_sums;
 mod opening;

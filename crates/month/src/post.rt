@@ -101,7 +101,7 @@ impl OpenMonth {
         sheet: &mut [HourLine],
         amounts: &mut [i64],
     ) -> Result<HourAnswer, Refusal>
-        ensures { MatchResult result (λ a. PostAccepted (of_open self.old) roll.old (posting_of (I.means instrument.now) (plain_day day.now) (plain_tables tables.now) holdings.now sheet.old amounts.old) a (of_open self.new) roll.new sheet.new amounts.new) (λ e. PostRefused (of_open self.old) roll.old (posting_of (I.means instrument.now) (plain_day day.now) (plain_tables tables.now) holdings.now sheet.old amounts.old) (told e) (of_open self.new) roll.new sheet.new amounts.new) }
+        ensures { let p = posting_of (I.means instrument.now) (plain_day day.now) (plain_tables tables.now) holdings.now sheet.old amounts.old in MatchResult result (λ a. PostAccepted (of_open self.old) roll.old p a (of_open self.new) roll.new sheet.new amounts.new) (λ e. PostRefused (of_open self.old) roll.old p (told e) (of_open self.new) roll.new sheet.new amounts.new) }
     {
         let none = Due {
             owner: 0,
