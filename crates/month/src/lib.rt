@@ -10,6 +10,7 @@ mod dues;
 mod handed_back;
 mod held_hour;
 mod hour;
+mod hour_dues;
 mod hour_sums;
 mod opening;
 mod post;
