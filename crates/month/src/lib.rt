@@ -3,6 +3,7 @@
 #![tactic(auto)]
 
 mod admit;
+mod asked_hour;
 mod books;
 mod close;
 mod closed;

@@ -11,6 +11,7 @@ ghost use Rattle.month.specs.Months.{of_open};
 ghost use Rattle.month.specs.Hours.{RoomyRoll};
 ghost use Rattle.month.specs.Sums.{sheet_line, rolled_line, entered, answered};
 
+use crate::asked_hour::AskedHour;
 use crate::books::Books;
 use crate::hour::{add_sheet, write_amounts};
 use crate::hour_dues::HourDues;
@@ -101,9 +102,13 @@ impl OpenMonth {
             amount: NOTHING,
         };
         let mut table = [none; 1024];
-        let sums = self.admit(
-            roll, day, tables, holdings, instrument, sheet, amounts, &mut table,
-        )?;
+        let asked = AskedHour {
+            instrument,
+            day,
+            tables,
+            holdings,
+        };
+        let sums = self.admit(roll, &asked, sheet, amounts, &mut table)?;
         let hour = HourDues {
             dues: &table[0..holdings.len()],
             sums,
