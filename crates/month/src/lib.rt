@@ -3,12 +3,15 @@
 #![tactic(auto)]
 
 mod admit;
+mod asked_hour;
 mod books;
 mod close;
 mod closed;
 mod dues;
 mod handed_back;
+mod held_hour;
 mod hour;
+mod hour_dues;
 mod hour_sums;
 mod opening;
 mod post;

@@ -11,8 +11,10 @@ ghost use Rattle.month.specs.Months.{of_open};
 ghost use Rattle.month.specs.Hours.{RoomyRoll};
 ghost use Rattle.month.specs.Sums.{sheet_line, rolled_line, entered, answered};
 
+use crate::asked_hour::AskedHour;
 use crate::books::Books;
 use crate::hour::{add_sheet, write_amounts};
+use crate::hour_dues::HourDues;
 use crate::hour_sums::HourSums;
 use crate::sheet::fill_sheet;
 use crate::state::OpenMonth;
@@ -23,23 +25,16 @@ use rows::{Day, HoldingRow};
 use units::Cents;
 
 /// Writes an hour that was admitted: amounts, hour sheet and roll.
-fn write_hour(
-    dues: &[Due],
-    sums: &HourSums,
-    roll: &mut [RollLine],
-    sheet: &mut [HourLine],
-    amounts: &mut [i64],
-)
-    requires owners { AllByRecursion (λ d. d.owner < length sheet.old) dues.now }
-    requires lines { (length sheet.old ≡ length roll.old) × (length dues.now ≤ length amounts.old) }
-    requires sums { (sums.now.credits ≡ all_credits dues.now) × (sums.now.charges ≡ all_charges dues.now) }
+fn write_hour(hour: &HourDues, roll: &mut [RollLine], sheet: &mut [HourLine], amounts: &mut [i64])
+    requires lines { (length roll.old ≡ hour.now.owners) × (length sheet.old ≡ hour.now.owners) }
+    requires room { length hour.now.dues.now ≤ length amounts.old }
     requires roll { AllByRecursion RoomyRoll roll.old }
-    ensures amounts { amounts.new ≡ map (λ d. d.amount.value) dues.now ++ drop (length dues.now) amounts.old }
-    ensures sheet { sheet.new ≡ lines_of (length roll.old) (sheet_line sums.now.short dues.now) }
-    ensures roll { roll.new ≡ lines_of (length roll.old) (rolled_line roll.old sums.now.short dues.now) }
+    ensures amounts { amounts.new ≡ map (λ d. d.amount.value) hour.now.dues.now ++ drop (length hour.now.dues.now) amounts.old }
+    ensures sheet { sheet.new ≡ lines_of (length roll.old) (sheet_line hour.now.sums.short hour.now.dues.now) }
+    ensures roll { roll.new ≡ lines_of (length roll.old) (rolled_line roll.old hour.now.sums.short hour.now.dues.now) }
 {
-    write_amounts(dues, amounts);
-    fill_sheet(sheet, dues, sums);
+    write_amounts(hour.dues, amounts);
+    fill_sheet(sheet, hour);
     add_sheet(roll, sheet);
 }
 
@@ -67,19 +62,18 @@ fn answer(rent: Cents, sums: &HourSums, balance: u64) -> HourAnswer
 
 impl OpenMonth {
     /// Enters an hour that was admitted into the month's own figures.
-    fn enter(&mut self, hour: u16, rent: u64, sums: &HourSums)
-        requires later { (self.old.books.last < hour) × (hour ≤ 744) }
-        requires money { rent ≤ limit }
+    fn enter(&mut self, day: &Day, sums: &HourSums)
+        requires later { self.old.books.last < day.now.hour }
         requires month { (self.old.books.shorts + sums.now.short ≤ limit) × (self.old.balance + sums.now.left ≤ limit) }
-        requires flows { rent + sums.now.charges + sums.now.short ≡ sums.now.credits + sums.now.left }
-        ensures { of_open self.new ≡ entered (of_open self.old) hour rent sums.now }
+        requires flows { (plain_day day.now).rent + sums.now.charges + sums.now.short ≡ sums.now.credits + sums.now.left }
+        ensures { of_open self.new ≡ entered (of_open self.old) day.now.hour (plain_day day.now).rent sums.now }
     {
         *self = OpenMonth {
             books: Books {
                 owners: self.books.owners,
                 hours: self.books.hours + 1,
-                last: hour,
-                rents: self.books.rents + rent,
+                last: day.hour,
+                rents: self.books.rents + day.rent.value as u64,
                 credits: self.books.credits + sums.credits,
                 charges: self.books.charges + sums.charges,
                 shorts: self.books.shorts + sums.short,
@@ -101,18 +95,27 @@ impl OpenMonth {
         sheet: &mut [HourLine],
         amounts: &mut [i64],
     ) -> Result<HourAnswer, Refusal>
-        ensures { MatchResult result (λ a. PostAccepted (of_open self.old) roll.old (posting_of (I.means instrument.now) (plain_day day.now) (plain_tables tables.now) holdings.now sheet.old amounts.old) a (of_open self.new) roll.new sheet.new amounts.new) (λ e. PostRefused (of_open self.old) roll.old (posting_of (I.means instrument.now) (plain_day day.now) (plain_tables tables.now) holdings.now sheet.old amounts.old) (told e) (of_open self.new) roll.new sheet.new amounts.new) }
+        ensures { let p = posting_of (I.means instrument.now) (plain_day day.now) (plain_tables tables.now) holdings.now sheet.old amounts.old in MatchResult result (λ a. PostAccepted (of_open self.old) roll.old p a (of_open self.new) roll.new sheet.new amounts.new) (λ e. PostRefused (of_open self.old) roll.old p (told e) (of_open self.new) roll.new sheet.new amounts.new) }
     {
         let none = Due {
             owner: 0,
             amount: NOTHING,
         };
         let mut table = [none; 1024];
-        let sums = self.admit(
-            roll, day, tables, holdings, instrument, sheet, amounts, &mut table,
-        )?;
-        write_hour(&table[0..holdings.len()], &sums, roll, sheet, amounts);
-        self.enter(day.hour, day.rent.value as u64, &sums);
+        let asked = AskedHour {
+            instrument,
+            day,
+            tables,
+            holdings,
+        };
+        let sums = self.admit(roll, &asked, sheet, amounts, &mut table)?;
+        let hour = HourDues {
+            dues: &table[0..holdings.len()],
+            sums,
+            owners: roll.len(),
+        };
+        write_hour(&hour, roll, sheet, amounts);
+        self.enter(day, &sums);
         Ok(answer(day.rent, &sums, self.balance))
     }
 }

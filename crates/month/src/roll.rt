@@ -7,7 +7,7 @@ use crate::books::Books;
 use ledger::{RollLine, is_within, positive_cents};
 
 /// The sum of each figure over a roll, before it is known to be the month's.
-#[derive(Clone, Copy)]
+#[derive(Clone, Copy, PartialEq, Eq)]
 struct RollSums {
     credits: u128,
     charges: u128,
@@ -68,11 +68,13 @@ impl Books {
         requires { length roll.now ≤ 128 }
         ensures { result ≡ sums_equal (of_books self.now refunds 0 0) roll.now }
     {
-        let sums = RollSums::of(roll);
-        sums.credits == u128::from(self.credits)
-            && sums.charges == u128::from(self.charges)
-            && sums.shorts == u128::from(self.shorts)
-            && sums.refunds == u128::from(refunds)
+        let own = RollSums {
+            credits: u128::from(self.credits),
+            charges: u128::from(self.charges),
+            shorts: u128::from(self.shorts),
+            refunds: u128::from(refunds),
+        };
+        RollSums::of(roll) == own
     }
 
     #[tactic(auto, unfolding(ledger::specs::Figures::tied))]

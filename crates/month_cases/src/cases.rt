@@ -1,8 +1,9 @@
 //! Sizes, holdings in turn, a whole month with refused calls between, and the largest hour.
+use crate::posts::{Room, first_hour, hour};
 use crate::tables::*;
-use ledger::{HourAnswer, LoadLine, RollLine};
-use month::{OpenMonth, RefundedMonth, open};
-use payoff::{Instrument, Obligation, Refund};
+use ledger::{CLEAR_ROLL, HourAnswer, LoadLine, RollLine};
+use month::{RefundedMonth, open};
+use payoff::{Obligation, Refund};
 use refusals::Refusal;
 use rows::HoldingRow;
 use std::io;
@@ -10,8 +11,8 @@ use units::Cents;
 
 /// Rolls that are empty or too long.
 pub(crate) fn sizes(rt: &impl Print) -> io::Result<()> {
-    let mut long = [ROLL; 129];
-    let mut none = [ROLL; 0];
+    let mut long = [CLEAR_ROLL; 129];
+    let mut none = [CLEAR_ROLL; 0];
     refused(rt, "a roll of 129 lines", opened(&mut long))?;
     refused(rt, "a roll of no line", opened(&mut none))?;
     refused(rt, "a roll of 128 lines", opened(&mut long[0..128]))
@@ -22,29 +23,15 @@ fn opened(roll: &mut [RollLine]) -> Result<(), Refusal> {
     Ok(())
 }
 
-/// Posts the holdings in hour 1 of a new month of two owners, with room for some amounts and some hour lines.
-fn first_hour(
-    holdings: &[HoldingRow],
-    factors: &[i16],
-    room: usize,
-    lines: usize,
-) -> Result<HourAnswer, Refusal> {
-    let mut roll = [ROLL; 2];
-    let mut sheet = [HOUR; 8];
-    let mut amounts = [0i64; 8];
-    let mut m = open(&mut roll)?;
-    let day = day(1, 0)?;
-    m.post(
-        &mut roll,
-        &day,
-        &CONSTRAINTS,
-        &points(),
-        factors,
-        holdings,
-        &Obligation,
-        &mut sheet[0..lines.min(8)],
-        &mut amounts[0..room.min(8)],
-    )
+/// Room for eight amounts and two hour lines.
+const ROOM: Room = Room {
+    amounts: 8,
+    lines: 2,
+};
+
+/// Posts obligations in hour 1 of a new month.
+fn obliged(holdings: &[HoldingRow]) -> Result<HourAnswer, Refusal> {
+    first_hour(holdings, &Obligation, &FACTORS, ROOM)
 }
 
 /// Tables of wrong sizes, and entries out of range.
@@ -52,32 +39,33 @@ pub(crate) fn sizes_and_entries(rt: &impl Print) -> io::Result<()> {
     let good = obligation(0, 0, 3, 100);
     let mut odd = obligation(1, 0, 3, 100);
     odd.letter = b'X';
-    report(
-        rt,
-        "accepted",
-        first_hour(&[good, obligation(1, 3, 0, 10)], &FACTORS, 8, 2),
-    )?;
+    report(rt, "accepted", obliged(&[good, obligation(1, 3, 0, 10)]))?;
     report(
         rt,
         "too few amounts",
-        first_hour(&[good, good], &FACTORS, 1, 2),
+        first_hour(
+            &[good, good],
+            &Obligation,
+            &FACTORS,
+            Room { amounts: 1, ..ROOM },
+        ),
     )?;
-    report(rt, "a sheet too long", first_hour(&[good], &FACTORS, 8, 3))?;
+    report(
+        rt,
+        "a sheet too long",
+        first_hour(&[good], &Obligation, &FACTORS, Room { lines: 3, ..ROOM }),
+    )?;
     report(
         rt,
         "too few shift factors",
-        first_hour(&[good], &FACTORS[0..3], 8, 2),
+        first_hour(&[good], &Obligation, &FACTORS[0..3], ROOM),
     )?;
     report(
         rt,
         "a shift factor out of range",
-        first_hour(&[good], &[0, 0, 10_001, 0], 8, 2),
+        first_hour(&[good], &Obligation, &[0, 0, 10_001, 0], ROOM),
     )?;
-    report(
-        rt,
-        "a letter out of range",
-        first_hour(&[good, odd], &FACTORS, 8, 2),
-    )
+    report(rt, "a letter out of range", obliged(&[good, odd]))
 }
 
 /// Holdings that fail a test in turn, each with its place.
@@ -88,66 +76,24 @@ pub(crate) fn holdings_in_turn(rt: &impl Print) -> io::Result<()> {
     report(
         rt,
         "an owner off the roll",
-        first_hour(&[good, obligation(2, 0, 3, 100)], &FACTORS, 8, 2),
+        obliged(&[good, obligation(2, 0, 3, 100)]),
     )?;
     report(
         rt,
         "a point twice",
-        first_hour(&[good, obligation(1, 3, 3, 100)], &FACTORS, 8, 2),
+        obliged(&[good, obligation(1, 3, 3, 100)]),
     )?;
-    report(
-        rt,
-        "another block",
-        first_hour(&[good, peak], &FACTORS, 8, 2),
-    )?;
+    report(rt, "another block", obliged(&[good, peak]))?;
     report(
         rt,
         "a holding twice",
-        first_hour(&[good, obligation(1, 0, 3, 100), good], &FACTORS, 8, 2),
+        obliged(&[good, obligation(1, 0, 3, 100), good]),
     )?;
-    report(rt, "not served", not_served(&[good]))
-}
-
-/// Refund is not for a pair of Hubs.
-fn not_served(holdings: &[HoldingRow]) -> Result<HourAnswer, Refusal> {
-    let mut roll = [ROLL; 2];
-    let mut sheet = [HOUR; 2];
-    let mut amounts = [0i64; 8];
-    let mut m = open(&mut roll)?;
-    let day = day(1, 0)?;
-    m.post(
-        &mut roll,
-        &day,
-        &CONSTRAINTS,
-        &points(),
-        &FACTORS,
-        holdings,
-        &Refund(Obligation),
-        &mut sheet,
-        &mut amounts,
-    )
-}
-
-fn hour(
-    m: &mut OpenMonth,
-    roll: &mut [RollLine],
-    number: u16,
-    rent: u64,
-    holdings: &[HoldingRow],
-) -> Result<HourAnswer, Refusal> {
-    let mut sheet = [HOUR; 2];
-    let mut amounts = [0i64; 8];
-    let day = day(number, rent)?;
-    m.post(
-        roll,
-        &day,
-        &CONSTRAINTS,
-        &points(),
-        &FACTORS,
-        holdings,
-        &Obligation,
-        &mut sheet,
-        &mut amounts,
+    // Refund is not for a pair of Hubs
+    report(
+        rt,
+        "not served",
+        first_hour(&[good], &Refund(Obligation), &FACTORS, ROOM),
     )
 }
 
@@ -162,7 +108,7 @@ fn settled_hour() -> [HoldingRow; 3] {
 
 /// A month of two hours with refused calls between, and its refund.
 pub(crate) fn whole_month(rt: &impl Print) -> io::Result<()> {
-    let mut roll = [ROLL; 2];
+    let mut roll = [CLEAR_ROLL; 2];
     let Ok(mut m) = open(&mut roll) else {
         return Ok(());
     };
@@ -185,9 +131,9 @@ pub(crate) fn whole_month(rt: &impl Print) -> io::Result<()> {
     let m = match m.refund(&mut roll) {
         Ok(_) => return Ok(()),
         Err(back) => {
-            let (m, e) = back;
+            let e = back.refusal;
             println!(rt; "refund with a negative figure: {e}")?;
-            m
+            back.month
         }
     };
     roll[1].short = Cents { value: 2_000 };
@@ -229,9 +175,9 @@ fn try_close(
             Ok(None)
         }
         Err(back) => {
-            let (m, e) = back;
+            let e = back.refusal;
             println!(rt; "close: {e}")?;
-            Ok(Some(m))
+            Ok(Some(back.month))
         }
     }
 }
@@ -275,48 +221,31 @@ const PAIRS: [(u16, u16); 8] = [
 
 /// 128 owners and 1,024 holdings; the last made the first again; and one holding too many.
 pub(crate) fn largest_hour(rt: &impl Print) -> io::Result<()> {
-    let mut roll = [ROLL; 128];
+    let mut roll = [CLEAR_ROLL; 128];
     let Ok(mut m) = open(&mut roll) else {
         return Ok(());
     };
     let mut held = [obligation(0, 0, 0, 1); 1025];
-    for i in 0..1025usize {
+    for (i, holding) in held.iter_mut().enumerate() {
         let (source, sink) = PAIRS[i % 8];
-        held[i] = obligation((i / 8) as u16, source, sink, 10);
+        *holding = obligation((i / 8) as u16, source, sink, 10);
     }
-    report(rt, "a holding too many", largest(&mut m, &mut roll, &held))?;
+    report(
+        rt,
+        "a holding too many",
+        hour(&mut m, &mut roll, 1, 0, &held),
+    )?;
     let last = held[1023];
     held[1023] = held[0];
     report(
         rt,
         "the last is the first",
-        largest(&mut m, &mut roll, &held[0..1024]),
+        hour(&mut m, &mut roll, 1, 0, &held[0..1024]),
     )?;
     held[1023] = last;
     report(
         rt,
         "the largest hour",
-        largest(&mut m, &mut roll, &held[0..1024]),
-    )
-}
-
-fn largest(
-    m: &mut OpenMonth,
-    roll: &mut [RollLine],
-    held: &[HoldingRow],
-) -> Result<HourAnswer, Refusal> {
-    let mut sheet = [HOUR; 128];
-    let mut amounts = [0i64; 1025];
-    let day = day(1, 0)?;
-    m.post(
-        roll,
-        &day,
-        &CONSTRAINTS,
-        &points(),
-        &FACTORS,
-        held,
-        &Obligation,
-        &mut sheet,
-        &mut amounts,
+        hour(&mut m, &mut roll, 1, 0, &held[0..1024]),
     )
 }

@@ -1,39 +1,13 @@
 //! The limits of money: an hour, or a month, that just fits, and one that is a cent over.
+use crate::posts::hour;
 use crate::tables::*;
-use ledger::{HourAnswer, HourLine, RollLine};
-use month::{OpenMonth, open};
-use payoff::Obligation;
-use refusals::Refusal;
-use rows::HoldingRow;
+use ledger::CLEAR_ROLL;
+use month::open;
 use std::io;
-
-/// Posts an hour of two owners.
-fn post(
-    m: &mut OpenMonth,
-    roll: &mut [RollLine],
-    hour: u16,
-    rent: u64,
-    holdings: &[HoldingRow],
-) -> Result<HourAnswer, Refusal> {
-    let mut sheet = [HOUR; 2];
-    let mut amounts = [0i64; 8];
-    let day = day(hour, rent)?;
-    m.post(
-        roll,
-        &day,
-        &CONSTRAINTS,
-        &points(),
-        &FACTORS,
-        holdings,
-        &Obligation,
-        &mut sheet,
-        &mut amounts,
-    )
-}
 
 /// Credits and charges of an hour at 3,000,000,000 cents and one over.
 pub(crate) fn hour_money(rt: &impl Print) -> io::Result<()> {
-    let mut roll = [ROLL; 2];
+    let mut roll = [CLEAR_ROLL; 2];
     let Ok(mut m) = open(&mut roll) else {
         return Ok(());
     };
@@ -42,28 +16,28 @@ pub(crate) fn hour_money(rt: &impl Print) -> io::Result<()> {
     report(
         rt,
         "credits a cent over",
-        post(&mut m, &mut roll, 1, 0, &paid),
+        hour(&mut m, &mut roll, 1, 0, &paid),
     )?;
     report(
         rt,
         "credits at the limit",
-        post(&mut m, &mut roll, 1, 3_000_000_000, &paid[0..1]),
+        hour(&mut m, &mut roll, 1, 3_000_000_000, &paid[0..1]),
     )?;
     report(
         rt,
         "charges a cent over",
-        post(&mut m, &mut roll, 2, 0, &charged),
+        hour(&mut m, &mut roll, 2, 0, &charged),
     )?;
     report(
         rt,
         "charges at the limit",
-        post(&mut m, &mut roll, 744, 0, &charged[0..1]),
+        hour(&mut m, &mut roll, 744, 0, &charged[0..1]),
     )
 }
 
 /// A month's balance and its total shortfall at 3,000,000,000 cents and one over.
 pub(crate) fn month_money(rt: &impl Print) -> io::Result<()> {
-    let mut roll = [ROLL; 2];
+    let mut roll = [CLEAR_ROLL; 2];
     let Ok(mut m) = open(&mut roll) else {
         return Ok(());
     };
@@ -72,26 +46,26 @@ pub(crate) fn month_money(rt: &impl Print) -> io::Result<()> {
     report(
         rt,
         "balance at the limit",
-        post(&mut m, &mut roll, 1, 3_000_000_000, &[]),
+        hour(&mut m, &mut roll, 1, 3_000_000_000, &[]),
     )?;
     report(
         rt,
         "balance a cent over",
-        post(&mut m, &mut roll, 2, 1, &[]),
+        hour(&mut m, &mut roll, 2, 1, &[]),
     )?;
     report(
         rt,
         "shortfall at the limit",
-        post(&mut m, &mut roll, 2, 0, &paid),
+        hour(&mut m, &mut roll, 2, 0, &paid),
     )?;
     report(
         rt,
         "shortfall a cent over",
-        post(&mut m, &mut roll, 3, 0, &cent),
+        hour(&mut m, &mut roll, 3, 0, &cent),
     )?;
     report(
         rt,
         "the same hour again",
-        post(&mut m, &mut roll, 2, 0, &[]),
+        hour(&mut m, &mut roll, 2, 0, &[]),
     )
 }

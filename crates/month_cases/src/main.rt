@@ -4,6 +4,7 @@
 
 mod cases;
 mod limits;
+mod posts;
 mod tables;
 
 use std::io;

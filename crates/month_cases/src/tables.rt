@@ -1,24 +1,9 @@
 //! The tables that the cases share: a Load Zone, Hubs, and a Resource Node; one constraint without effect.
-use ledger::{HourAnswer, HourLine, LoadLine, RollLine};
+use ledger::{HourAnswer, LoadLine};
 use refusals::Refusal;
-use rows::{ConstraintRow, Day, DayRow, HoldingRow, PointRow};
+use rows::{ConstraintRow, Day, DayRow, FromRow, HoldingRow, PointRow};
 use std::io;
 use units::Cents;
-
-pub(crate) const NOTHING: Cents = Cents { value: 0 };
-
-pub(crate) const ROLL: RollLine = RollLine {
-    credit: NOTHING,
-    charge: NOTHING,
-    short: NOTHING,
-    refund: NOTHING,
-};
-
-pub(crate) const HOUR: HourLine = HourLine {
-    credit: NOTHING,
-    charge: NOTHING,
-    short: NOTHING,
-};
 
 pub(crate) const CONSTRAINTS: [ConstraintRow; 1] = [ConstraintRow {
     shadow: 0,
@@ -58,15 +43,12 @@ pub(crate) fn points() -> [PointRow; 4] {
 
 /// An off-peak hour.
 pub(crate) fn day(hour: u16, rent: u64) -> Result<Day, Refusal> {
-    Day::from_row(
-        &DayRow {
-            hour,
-            weekday: 0,
-            ending: 1,
-            rent,
-        },
-        0,
-    )
+    Day::new(DayRow {
+        hour,
+        weekday: 0,
+        ending: 1,
+        rent,
+    })
 }
 
 pub(crate) fn load(mwh: u32, paid: i64) -> LoadLine {

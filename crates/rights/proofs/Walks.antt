@@ -1,6 +1,6 @@
 -- A walk back through earlier holdings.
 use Rattle.std.proofs.Common.{◌≡◌, ℕ, zero, suc, ◌<◌, ◌≤◌, Bool, true, false, ◌||◌, eqb, List, [], ◌∷◌, length, get_or, take, sym, refl, ap, ◌∙◌, le_of_suc-le-suc, arith}
-use mathlib.Core.Bool.{or-false, or-true, or_assoc}
+use mathlib.Core.Bool.{or-false, or_assoc}
 use Rattle.std.proofs.lemmas.Bool.{eqb-false, cond_both}
 use Rattle.rows.specs.declared.plain.HoldingRow.{HoldingRow}
 use Rattle.rights.specs.Rights.{same_right, some, no_holding, repeated_at}
@@ -52,10 +52,6 @@ module _ (hs : List HoldingRow) (place : ℕ) (inside : place < length hs) where
   pub walk_on : (n k : ℕ) → n ≡ suc k → Walk hs place n → same_right (get_or hs k no_holding) (get_or hs place no_holding) ≡ false → Walk hs place k
   walk_on n k is w other =
       record { within = omega (arith, w.within); rest = sym (or-false (some (λ e. same_right e (get_or hs place no_holding)) (take k hs))) ∙ rest_more n k false is w other }
-
-  pub walk_found : (n k : ℕ) → n ≡ suc k → Walk hs place n → same_right (get_or hs k no_holding) (get_or hs place no_holding) ≡ true → true ≡ repeated_at hs place
-  walk_found n k is w same =
-      sym (or-true (some (λ e. same_right e (get_or hs place no_holding)) (take k hs))) ∙ rest_more n k true is w same
 
   -- on to the last of the bucket among those that are left
   pub to_last : (b n link : ℕ) → Walk hs place n → b ≡ bucket_at hs place → link ≡ last_in hs b n → ChainWalk hs place link

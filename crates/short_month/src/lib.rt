@@ -4,29 +4,27 @@
 
 ghost use Rattle.std.specs.Prelude.{◌≡◌, MatchResult};
 ghost use Rattle.rows.specs.Plain.{plain_day};
-ghost use Rattle.payoff.specs.Tables.{tables};
+ghost use Rattle.payoff.specs.Plain.{plain_tables};
 ghost use Rattle.month.specs.Months.{of_closed};
 ghost use Rattle.short_month.specs.TwoHours.{hour, TwoHours};
 
 use ledger::{CLEAR_HOUR, CLEAR_ROLL, LoadLine};
 use month::{ClosedMonth, open};
-use payoff::Instrument;
+use payoff::{Instrument, PlainTables};
 use refusals::Refusal;
-use rows::{ConstraintRow, Day, HoldingRow, PointRow};
+use rows::{Day, HoldingRow};
 
 /// Settles a month of 128 owners in which the same holdings stand for two hours, and pays its rest out to the loads.
 /// Where one of the calls refuses, the loads are as they were.
-pub fn settle_two_hours<'a, I: Instrument>(
+pub fn settle_two_hours<I: Instrument>(
     first: &Day,
     second: &Day,
-    constraints: &'a [ConstraintRow],
-    points: &'a [PointRow],
-    factors: &'a [i16],
+    tables: &PlainTables,
     holdings: &[HoldingRow],
     instrument: &I,
     loads: &mut [LoadLine],
 ) -> Result<ClosedMonth, Refusal>
-    ensures { MatchResult result (λ m. TwoHours (hour (I.means instrument.now) (tables constraints.now points.now factors.now) holdings.now (plain_day first.now)) (hour (I.means instrument.now) (tables constraints.now points.now factors.now) holdings.now (plain_day second.now)) loads.old (of_closed m) loads.new) (λ _. loads.new ≡ loads.old) }
+    ensures { MatchResult result (λ m. TwoHours (hour (I.means instrument.now) (plain_tables tables.now) holdings.now (plain_day first.now)) (hour (I.means instrument.now) (plain_tables tables.now) holdings.now (plain_day second.now)) loads.old (of_closed m) loads.new) (λ _. loads.new ≡ loads.old) }
 {
     let mut roll = [CLEAR_ROLL; 128];
     let mut sheet = [CLEAR_HOUR; 128];
@@ -35,9 +33,7 @@ pub fn settle_two_hours<'a, I: Instrument>(
     let _ = m.post(
         &mut roll,
         first,
-        constraints,
-        points,
-        factors,
+        tables,
         holdings,
         instrument,
         &mut sheet,
@@ -46,20 +42,12 @@ pub fn settle_two_hours<'a, I: Instrument>(
     let _ = m.post(
         &mut roll,
         second,
-        constraints,
-        points,
-        factors,
+        tables,
         holdings,
         instrument,
         &mut sheet,
         &mut amounts,
     )?;
-    let m = match m.refund(&mut roll) {
-        Ok(m) => m,
-        Err(back) => return Err(back.1),
-    };
-    match m.close(&roll, loads) {
-        Ok(m) => Ok(m),
-        Err(back) => Err(back.1),
-    }
+    let m = m.refund(&mut roll)?;
+    Ok(m.close(&roll, loads)?)
 }

@@ -6,7 +6,7 @@ use Rattle.short_month.proofs.settle_two_hours.Goals as goal
 pub returns-in_err-post-2 : goal.returns-in_err-post-2
 returns-in_err-post-2 g c = MatchResult-from_err c.from_residual-in_err-post-2.result _ _ c.from_residual-in_err-post-2.ensures.0 (λ y. refl)
 
-pub returns-in-Ok-close : goal.returns-in-Ok-close
-returns-in-Ok-close g c =
+pub returns : goal.returns
+returns g c =
     let keeps = g.met.I.Instrument.rules c.args.instrument.now in
-    two_hours _ refl _ _ c.in_ok-m.ensures.runs _ _ keeps keeps _ _ _ _ _ _ _ _ _ _ _ _ _ _ _ c.in_ok-post.ensures c.in_ok-post-2.ensures c.in-Ok.ensures c.in-Ok-close.ensures
+    two_hours _ refl _ _ c.in_ok-m.ensures.runs _ _ keeps keeps _ _ _ _ _ _ _ _ _ _ _ _ _ _ _ c.in_ok-post.ensures c.in_ok-post-2.ensures c.in_ok-m-2.ensures c.in_ok-close.ensures

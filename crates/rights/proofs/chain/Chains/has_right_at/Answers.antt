@@ -1,7 +1,7 @@
 use Rattle.std.proofs.Common.{◌≡◌, suc, ◌-◌, ◌<◌, sym, arith}
 use Rattle.rights.specs.Chains.{bucket_at}
 use Rattle.rights.proofs.Buckets.{last_within}
-use Rattle.rights.proofs.Walks.{walk_start, walk_on, walk_found, to_last}
+use Rattle.rights.proofs.Walks.{walk_start, walk_on, to_last}
 use Rattle.rights.proofs.chain.Chains.has_right_at.Goals as goal
 
 pub loop-link-init : goal.loop-link-init
@@ -9,10 +9,6 @@ loop-link-init c =
     let hs = c.args.holdings.now in
     let place = c.args.place in
     to_last hs place c.requires.inside.0 c.args.bucket place _ (walk_start hs place c.requires.inside.0) c.requires.own.0 (c.requires.chained.begins c.args.bucket c.requires.own.1)
-
-pub returns-then-is_same_right : goal.returns-then-is_same_right
-returns-then-is_same_right c =
-    walk_found c.args.holdings.now c.args.place c.requires.inside.0 c.loop-link.link _ (omega arith) c.loop-link.invariant.walk (sym c.if-is_same_right.ensures)
 
 pub loop-link-smaller : goal.loop-link-smaller
 loop-link-smaller c =
