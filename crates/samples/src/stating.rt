@@ -1,5 +1,5 @@
 use anyhow::{Context, anyhow};
-use rows::{Day, DayRow, HoldingRow};
+use rows::{Day, DayRow, FromRow, HoldingRow};
 use statement::{HourFigures, write_statement};
 
 /// Prints the statement of an hour with two holdings, of which one pays and one is paid.

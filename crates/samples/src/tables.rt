@@ -17,31 +17,11 @@ pub(crate) struct Tables {
 impl Tables {
     /// Tables of so many entries, all of them 0.
     pub(crate) fn new(heap: Global, room: Room) -> Result<Tables, AllocError> {
-        let constraint = ConstraintRow {
-            shadow: 0,
-            deration: 0,
-        };
-        let point = PointRow {
-            letter: 0,
-            price: 0,
-            minimum: 0,
-            maximum: 0,
-        };
-        let holding = HoldingRow {
-            owner: 0,
-            letter: 0,
-            source: 0,
-            sink: 0,
-            quantity: 0,
-            block: 0,
-            actual: 0,
-            real_time: 0,
-        };
         Ok(Tables {
-            constraints: vec![in heap; constraint; room.constraints]?,
-            points: vec![in heap; point; room.points]?,
+            constraints: vec![in heap; ConstraintRow::default(); room.constraints]?,
+            points: vec![in heap; PointRow::default(); room.points]?,
             factors: vec![in heap; 0i16; room.factors]?,
-            holdings: vec![in heap; holding; room.holdings]?,
+            holdings: vec![in heap; HoldingRow::default(); room.holdings]?,
         })
     }
 
