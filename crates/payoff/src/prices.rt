@@ -1,43 +1,25 @@
-ghost use Rattle.std.specs.Prelude.{◌≡◌, ◌||◌, pos, neg_ℤ, ◌≤ℤ◌};
-ghost use Rattle.std.specs.Int.{int_min};
+ghost use Rattle.std.specs.Prelude.{◌≡◌, ◌||◌, pos, neg_ℤ, ◌≤ℤ◌, if◌then◌else◌};
 ghost use Rattle.rows.specs.Plain.{plain_point};
 ghost use Rattle.rows.specs.declared.letters.PointKind.TheVariants.{ResourceNode};
-ghost use Rattle.payoff.specs.Prices.{spread, high_price, low_price, hedge_price_of, floor_price_of, refundable, is_kind};
+ghost use Rattle.payoff.specs.Prices.{spread, hedge_price_of, floor_price_of, refundable, is_kind};
 ghost use Rattle.payoff.specs.View.{plain_pair};
 
 use crate::pair::Pair;
 use rows::{Point, PointKind};
 use units::Price;
 
-/// What a sink is worth at most: the Maximum Resource Price of a Resource Node, else its price.
-fn high_price(point: &Point) -> i32
-    ensures value { result ≡ high_price (plain_point point.now) }
+/// What an end of the pair counts for: its Resource Price where it is a Resource Node, else its price.
+fn counted_price(point: &Point, resource_price: Price) -> i32
+    requires at_least { neg_ℤ (pos 1000000) ≤ℤ resource_price.value }
+    requires at_most { resource_price.value ≤ℤ pos 1000000 }
+    ensures value { result ≡ (if is_kind ResourceNode (plain_point point.now) then resource_price.value else point.now.price.value) }
     ensures low { neg_ℤ (pos 1000000) ≤ℤ result }
     ensures high { result ≤ℤ pos 1000000 }
 {
     match point.kind {
-        PointKind::ResourceNode => point.maximum.value,
+        PointKind::ResourceNode => resource_price.value,
         PointKind::LoadZone | PointKind::Hub => point.price.value,
     }
-}
-
-/// What a source costs at least: the Minimum Resource Price of a Resource Node, else its price.
-fn low_price(point: &Point) -> i32
-    ensures value { result ≡ low_price (plain_point point.now) }
-    ensures low { neg_ℤ (pos 1000000) ≤ℤ result }
-    ensures high { result ≤ℤ pos 1000000 }
-{
-    match point.kind {
-        PointKind::ResourceNode => point.minimum.value,
-        PointKind::LoadZone | PointKind::Hub => point.price.value,
-    }
-}
-
-/// The smaller of two prices.
-fn smaller(a: Price, b: Price) -> Price
-    ensures { result.value ≡ int_min a.value b.value }
-{
-    if b.value < a.value { b } else { a }
 }
 
 impl Pair {
@@ -50,12 +32,15 @@ impl Pair {
         }
     }
 
-    /// The hedge price: what the sink is worth at most less what the source costs at least, or 0.
+    /// The hedge price: what the sink is worth at most, a Resource Node its Maximum Resource Price, less what the source
+    /// costs at least, a Resource Node its Minimum Resource Price, or 0.
     pub fn hedge_price(&self) -> Price
         ensures { result.value ≡ hedge_price_of (plain_pair self.now) }
     {
+        let most = counted_price(&self.sink, self.sink.maximum);
+        let least = counted_price(&self.source, self.source.minimum);
         Price {
-            value: (high_price(&self.sink) - low_price(&self.source)).max(0),
+            value: (most - least).max(0),
         }
     }
 
@@ -76,7 +61,7 @@ impl Pair {
         if target.value <= 0 || !self.has_resource_node() {
             return target;
         }
-        smaller(target, self.hedge_price())
+        target.min(self.hedge_price())
     }
 
     /// Whether Refund is for this pair: from a Resource Node to a Load Zone or a Hub.
