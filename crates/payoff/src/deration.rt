@@ -1,9 +1,9 @@
-ghost use Rattle.std.specs.Prelude.{◌≡◌, ◌*◌, ◌≤◌, true, ◌-ℤ◌};
+ghost use Rattle.std.specs.Prelude.{◌≡◌, ◌*◌, ◌<◌, ◌≤◌, true, length, ◌-ℤ◌};
 ghost use Rattle.units.specs.Parts.{positive};
 ghost use Rattle.rows.specs.Ranges.{constraint_ok, factor_ok};
 ghost use Rattle.rows.specs.Plain.{plain_holding};
 ghost use Rattle.payoff.specs.Tables.{pair_ok};
-ghost use Rattle.payoff.specs.Prices.{deration_price_of};
+ghost use Rattle.payoff.specs.Prices.{factors_of, deration_price_of};
 ghost use Rattle.payoff.specs.View.{tables_of};
 
 use crate::tested::TestedTables;
@@ -33,21 +33,28 @@ fn deration_term(row: &ConstraintRow, source: i16, sink: i16) -> u64
     factor_gap(source, sink) as u64 * row.shadow as u64 * row.deration as u64
 }
 
+impl<'a> TestedTables<'a> {
+    /// The shift factors of a point, one for each constraint.
+    fn factors_of(&self, point: u16) -> &'a [i16]
+        requires { point < length (tables_of self.now).points }
+        ensures { result.now ≡ factors_of (tables_of self.now) point }
+    {
+        let columns = self.plain.constraints.len();
+        let first = point as usize * columns;
+        &self.plain.factors[first..first + columns]
+    }
+}
+
 /// The deration price of a holding: summed over every constraint of the hour, and rounded once.
 pub(crate) fn deration_price(hour: &TestedTables, holding: &Holding) -> Price
     requires { pair_ok (tables_of hour.now) (plain_holding holding.now) ≡ true }
     ensures { result.value ≡ deration_price_of (tables_of hour.now) (plain_holding holding.now) }
 {
-    let n = hour.plain.constraints.len();
-    let source = holding.source as usize * n;
-    let sink = holding.sink as usize * n;
+    let sources = hour.factors_of(holding.source);
+    let sinks = hour.factors_of(holding.sink);
     let mut sum: u64 = 0;
-    for (c, row) in hour.plain.constraints.iter().enumerate() {
-        sum += deration_term(
-            row,
-            hour.plain.factors[source + c],
-            hour.plain.factors[sink + c],
-        );
+    for (row, (source, sink)) in hour.plain.constraints.iter().zip(sources.iter().zip(sinks)) {
+        sum += deration_term(row, *source, *sink);
     }
     Price {
         value: deration_cents(sum) as i32,
