@@ -1,4 +1,4 @@
-//! The lines themselves,.
+//! The lines themselves.
 ghost use Rattle.std.specs.Prelude.{◌≡◌, ◌+◌, ◌*◌, ◌<◌, ◌≤◌, true, length};
 ghost use Rattle.buffer.specs.Appends.{Appends, HasRoom};
 ghost use Rattle.statement.specs.Lines.{holding_line, holding_lines, hour_line_of, sizes_ok};
