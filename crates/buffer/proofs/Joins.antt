@@ -30,8 +30,5 @@ whole a bs r d w =
     (e, sym s ∙ ap (λ xs. xs ++ drop r d) w.front ∙ ap (λ xs. bs ++ xs) w.rest ∙ ap (λ m. bs ++ drop m a) e, w.front)
 
 -- the same of what is appended
-pub unchanged : (o : Output) → Appends o [] o
-unchanged o = record { same = refl; wrote = nothing o.buffer.now o.len }
-
 pub appended : (o p q : Output) (xs ys : List ℕ) → Appends o xs p → Appends p ys q → Appends o (xs ++ ys) q
 appended o p q xs ys h k = record { same = k.same ∙ h.same; wrote = joined o.buffer.now p.buffer.now q.buffer.now o.len p.len q.len xs ys h.wrote k.wrote }

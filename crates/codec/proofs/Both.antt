@@ -25,9 +25,6 @@ taken p n ok at bs x l e o =
 pub too_long : {X : Type 0} (p n : ℕ) (ok : X → Bool) (at : List ℕ → X) (bs : List ℕ) → eqb (length bs) n ≡ false → decoded p n ok at bs ≡ Err (refused_at 3 p)
 too_long p n ok at bs a = rw a
 
-pub out_of_range : {X : Type 0} (p n : ℕ) (ok : X → Bool) (at : List ℕ → X) (bs : List ℕ) → length bs ≡ n → ok (at bs) ≡ false → decoded p n ok at bs ≡ Err (refused_at 6 p)
-out_of_range p n ok at bs l b = let a : eqb (length bs) n ≡ true = eq-eqb (length bs) n l in rw (a, b)
-
 -- and of what is taken, that is known
 pub told : {X : Type 0} (p n : ℕ) (ok : X → Bool) (at : List ℕ → X) (bs : List ℕ) (x : X) → decoded p n ok at bs ≡ Ok x → (length bs ≡ n) × (at bs ≡ x) × (ok x ≡ true)
 told p n ok at bs x e = picks (eqb (length bs) n) (ok (at bs)) (eqb-true (length bs) n) refl e

@@ -1,7 +1,6 @@
 -- Shift factors, two bytes at a time.
-use Rattle.std.proofs.Common.{◌≡◌, ℕ, suc, ◌+◌, ◌*◌, ◌/◌, ◌%◌, ◌<◌, ◌≤◌, Bool, true, false, ◌&&◌, List, [], ◌∷◌, ◌++◌, length, get_or, take, drop, map, set, ℤ, pos, negsuc, sym, refl, ap, ◌∙◌, append_assoc, append-nil, add-one, arith, length-set, drop-cons, w16, SFits}
+use Rattle.std.proofs.Common.{◌≡◌, ℕ, suc, ◌*◌, ◌/◌, ◌%◌, Bool, true, false, ◌&&◌, List, [], ◌∷◌, ◌++◌, length, get_or, map, ℤ, pos, negsuc, refl, ap, ◌∙◌, arith, w16, SFits}
 use Rattle.std.specs.Simd.{first_chunks}
-use Rattle.std.proofs.lemmas.List.{take_more_set, drop-set-lt, length-take-le, drop-drop, take-append-drop}
 use Rattle.std.proofs.lemmas.Bool.Decides.{nat_tests}
 use Rattle.rows.specs.Ranges.{factor_ok}
 use Rattle.codec.specs.Bytes.{Bytes, int2}
@@ -19,19 +18,6 @@ factors_pairs (a ∷ b ∷ bs) =
     let n : length (a ∷ b ∷ bs) / 2 ≡ suc (length bs / 2) = omega arith in
     let i = factors_pairs bs in
     rw n (ap (λ zs. int2 a b ∷ zs) i)
-
--- one more pair
-pub next_pair : (pairs : List (List ℕ)) (i : ℕ) → i < length pairs → map factor_of (drop i pairs) ≡ factor_of (get_or pairs i []) ∷ map factor_of (drop (i + 1) pairs)
-next_pair pairs i h = rw (add-one, drop-cons pairs i []) refl
-
--- the tests of the entries so far, with those of the entries that are left
-pub more_sound : (all b : Bool) (zs : List ℤ) (z : ℤ) (rest : List ℤ) (whole : Bool) → zs ≡ z ∷ rest → factor_ok z ≡ b → whole ≡ (all && every factor_ok zs) → whole ≡ ((all && b) && every factor_ok rest)
-more_sound true b zs z rest whole s h e = e ∙ ap (every factor_ok) s ∙ ap (λ x. x && every factor_ok rest) h
-more_sound false b zs z rest whole s h e = e
-
-pub all_sound : (all : Bool) (zs : List ℤ) (whole : Bool) → zs ≡ [] → whole ≡ (all && every factor_ok zs) → all ≡ whole
-all_sound true zs whole s e = sym (e ∙ ap (every factor_ok) s)
-all_sound false zs whole s e = sym e
 
 pub factors_length : (bs : List ℕ) → length (factors_at bs) ≡ length bs / 2
 factors_length [] = refl
@@ -70,22 +56,3 @@ factors_canon (a ∷ []) e h = absurd (omega arith)
 factors_canon (a ∷ b ∷ bs) e h =
     let i = factors_canon bs (omega arith) (λ k. h (suc (suc k))) in
     ap (λ ys. ys ++ encode_factors (factors_at bs)) (twos2_int2 a b (h 0) (h 1)) ∙ ap (λ ys. a ∷ b ∷ ys) i
-
--- one more is stored in a table, and all are
-pub stored : {X : Type 0} (t t0 : List X) (n : ℕ) (c : X) (left more all : List X) → left ≡ c ∷ more → all ≡ take n t ++ left → n + length left ≤ length t → drop n t ≡ drop n t0 → (all ≡ take (n + 1) (set t n c) ++ more) × (n + 1 + length more ≤ length (set t n c)) × (drop (n + 1) (set t n c) ≡ drop (n + 1) t0)
-stored t t0 n c left more all s e le d =
-    let z = ap length s in
-    let lt : n < length t = omega arith in
-    let a = take_more_set t n c lt in
-    let b = append_assoc (take n t) (c ∷ []) more in
-    let x = drop-set-lt (n + 1) t n c (omega arith) in
-    let y = drop-drop 1 n t in
-    let w = drop-drop 1 n t0 in
-    (e ∙ ap (λ xs. take n t ++ xs) s ∙ sym b ∙ ap (λ xs. xs ++ more) (sym a), simp length-set (omega arith), x ∙ sym y ∙ ap (drop 1) d ∙ w)
-
-pub all_stored : {X : Type 0} (t t0 : List X) (n : ℕ) (more all : List X) → more ≡ [] → all ≡ take n t ++ more → n + length more ≤ length t → drop n t ≡ drop n t0 → t ≡ all ++ drop (length all) t0
-all_stored t t0 n more all none e le d =
-    let f : all ≡ take n t = e ∙ ap (λ xs. take n t ++ xs) none ∙ append-nil (take n t) in
-    let l : length all ≡ n = ap length f ∙ length-take-le n t (omega arith) in
-    let s = take-append-drop n t in
-    cc

@@ -6,6 +6,8 @@ ghost use Rattle.codec.specs.Records.{encode_day, encode_constraint, encode_poin
 
 use rows::{ConstraintRow, Day, HoldingRow, PointRow};
 
+// each kind has a length of its own, which a trait cannot give its array, so each has a function
+
 /// The fields of a D record.
 pub fn day_bytes(day: &Day) -> [u8; 12]
     ensures { result ≡ encode_day (plain_day day.now) }

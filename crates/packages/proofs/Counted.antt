@@ -1,5 +1,5 @@
 -- The tests by counts, and one step of the records by what comes next.
-use Rattle.std.proofs.Common.{◌≡◌, ℕ, zero, suc, ◌+◌, ◌<◌, Bool, true, false, cond, ◌&&◌, eqb, ltb, ◌≢◌, List, [], ◌∷◌, length, Ok, Err, Result, sym, refl, ap, ◌∙◌, arith, length-append, ne_eqb}
+use Rattle.std.proofs.Common.{◌≡◌, ℕ, zero, suc, ◌+◌, ◌<◌, Bool, true, false, cond, ◌&&◌, eqb, ltb, List, [], ◌∷◌, length, Ok, Err, Result, sym, refl, ap, ◌∙◌, arith, length-append}
 use Rattle.refusals.specs.Numbers.{Told, refused_at}
 use Rattle.codec.specs.Records.{decode_constraint, decode_point, decode_holding, answered}
 use Rattle.records.specs.Frames.{End, Bad, One, frame_of}
@@ -46,14 +46,6 @@ count_takes_lem p t l f =
     (cond_seen counted (eqb l 80) _ _
     ∙ ap (λ x. cond (eqb l 80) x (answered counted (cond (eqb l 72) (admit p true (ltb (length t.holdings) 1024) (decode_holding p f) (with_holding t)) (Err (refused_at 4 p))))) q
     ∙ ap (λ x. cond (eqb l 80) (count_point p (counted t) f) x) (cond_seen counted (eqb l 72) _ _ ∙ ap (λ x. cond (eqb l 72) x (Err (refused_at 4 p))) h))
-
--- a letter of no kind
-pub count_none : (p : ℕ) (n : Counts) (l : ℕ) (f : List ℕ) → l ≢ 67 → l ≢ 80 → l ≢ 72 → count_takes p n l f ≡ Err (refused_at 4 p)
-count_none p n l f a b c =
-    let x : eqb l 67 ≡ false = ne_eqb l 67 a in
-    let y : eqb l 80 ≡ false = ne_eqb l 80 b in
-    let z : eqb l 72 ≡ false = ne_eqb l 72 c in
-    rw (x, y, z)
 
 -- the records from p on, of which there are fewer than j, as the loop has them
 module _ (W : Result Hour Told) (j p : ℕ) (u : Hour) (bs : List ℕ) (seen : Counts) (few : length bs < j) (same : counted u ≡ seen) (left : W ≡ run j p u bs) where

@@ -21,8 +21,7 @@ use Rattle.rows.specs.declared.plain.HoldingRow.{HoldingRow}
 use Rattle.buffer.specs.Appends.{Appends}
 use Rattle.buffer.specs.declared.output.Output.{Output}
 use Rattle.buffer.proofs.Joins.{appended}
-use Rattle.statement.specs.declared.figures.HourFigures.{HourFigures}
-use Rattle.statement.specs.Lines.{holding_line, holding_lines, hour_line_of, sizes_ok}
+use Rattle.statement.specs.Lines.{holding_line, holding_lines, sizes_ok}
 use Rattle.statement.specs.Room.{Room}
 
 pub holding_long : (i o : ℕ) (a : ℤ) → length (holding_line i o a) ≡ 24 + length (decimal i) + length (decimal o) + length (signed_decimal a)
@@ -40,9 +39,6 @@ holding_longest i o a h k f =
 pub has_room : (room longest long : ℕ) → long ≤ longest → Room room longest long → long ≤ room
 has_room room longest long h (inl p) = omega arith
 has_room room longest long h (inr p) = p
-
-pub hour_long : (n : ℕ) (f : HourFigures) → length (hour_line_of n f) ≡ 44 + length (decimal n) + (length (signed_decimal f.rent) + length (signed_decimal f.credits) + length (signed_decimal f.charges) + length (signed_decimal f.shortfall) + length (signed_decimal f.balance))
-hour_long n f = simp length-append (omega arith)
 
 pub sizes_inv : (a b : ℕ) → sizes_ok a b ≡ true → (a ≤ 1024) × (a ≤ b)
 sizes_inv a b e = (grind (arith, nat_tests), grind (arith, nat_tests))

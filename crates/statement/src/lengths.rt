@@ -33,6 +33,7 @@ pub(crate) fn lines_len(holdings: &[HoldingRow], amounts: &[i64]) -> usize
     ensures value { result ≡ length (holding_lines 0 holdings.now amounts.now) }
     ensures bound { result ≤ 87040 }
 {
+    // of what a chain gives no range is known, so the sum is a loop's
     let mut total = 0;
     for (i, (holding, amount)) in holdings.iter().zip(amounts).enumerate() {
         total += holding_len(i, holding.owner, amount);

@@ -3,7 +3,8 @@ ghost use Rattle.buffer.specs.Appends.{Appends, HasRoom};
 
 use buffer::Output;
 
-/// Writes a word, for which there is room. The room is known for a whole line, so it is not tested for each of its words.
+/// Writes a word, for which there is room. The room is known for a whole line, so it is not tested for each of its words,
+/// as `Output::put` would.
 pub(crate) fn put_word(out: &mut Output, word: &[u8])
     requires { HasRoom out.old (length word.now) }
     ensures { Appends out.old word.now out.new }

@@ -2,9 +2,10 @@
 
 #![tactic(auto)]
 
+mod encoded;
 mod pieces;
-mod recorded;
 mod sizes;
+mod tables;
 mod writing;
 
 pub use writing::write_package;

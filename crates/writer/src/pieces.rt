@@ -6,19 +6,19 @@ ghost use Rattle.codec.specs.Records.{encode_placed, encode_point};
 ghost use Rattle.buffer.specs.Appends.{Appends, HasRoom};
 ghost use Rattle.format.specs.Hours.{records_of, placed};
 
-use crate::recorded::Recorded;
+use crate::encoded::Encoded;
 use buffer::Output;
 use codec::point_bytes;
 use rows::PointRow;
 
 /// The bytes of each entry.
-pub(crate) fn put_records<R: Recorded>(rows: &[R], out: &mut Output)
+pub(crate) fn put_entries<R: Encoded>(rows: &[R], out: &mut Output)
     requires { HasRoom out.old (length (flat_map R.bytes rows.now)) }
     ensures wrote { Appends out.old (flat_map R.bytes rows.now) out.new }
     ensures fits { AllByRecursion R.fits rows.now }
 {
     for row in rows {
-        row.put_record(out);
+        row.put_bytes(out);
     }
 }
 
@@ -43,6 +43,6 @@ pub(crate) fn put_points(points: &[PointRow], factors: &[i16], columns: usize, o
     for (i, point) in points.iter().enumerate() {
         let first = i * columns;
         out.put(&point_head(point, columns));
-        put_records(&factors[first..first + columns], out);
+        put_entries(&factors[first..first + columns], out);
     }
 }

@@ -1,40 +1,41 @@
 //! The tests before anything is written, and the length of what will be.
 ghost use Rattle.std.specs.Prelude.{◌≡◌, ◌+◌, ◌*◌, true, length};
-ghost use Rattle.format.specs.Writing.{sizes_in, bad_in};
+ghost use Rattle.format.specs.Writing.{sizes_ok, bad_entry};
+ghost use Rattle.writer.specs.Laid.{tables_in};
 
+use crate::tables::HourTables;
 use format::{MOST_CONSTRAINTS, MOST_HOLDINGS, MOST_POINTS};
-use rows::{ConstraintRow, HoldingRow, PointRow, first_bad};
+use rows::first_bad;
 
-/// Whether an hour may have so many constraints, points, shift factors and holdings.
-pub(crate) fn sizes_ok(constraints: usize, points: usize, factors: usize, holdings: usize) -> bool
-    ensures { result ≡ sizes_in constraints points factors holdings }
-{
-    constraints <= MOST_CONSTRAINTS
-        && points <= MOST_POINTS
-        && holdings <= MOST_HOLDINGS
-        && factors == points * constraints
-}
+impl HourTables<'_> {
+    /// Whether an hour may have so many constraints, points, shift factors and holdings.
+    pub(crate) fn sizes_ok(&self) -> bool
+        ensures { result ≡ sizes_ok (tables_in self.now) }
+    {
+        self.constraints.len() <= MOST_CONSTRAINTS
+            && self.points.len() <= MOST_POINTS
+            && self.holdings.len() <= MOST_HOLDINGS
+            && self.factors.len() == self.points.len() * self.constraints.len()
+    }
 
-/// The place of the first entry whose figures or letters are out of range: constraints before points, shift factors and
-/// holdings.
-pub(crate) fn bad_entry(
-    constraints: &[ConstraintRow],
-    points: &[PointRow],
-    factors: &[i16],
-    holdings: &[HoldingRow],
-) -> Option<usize>
-    ensures { result ≡ bad_in constraints.now points.now factors.now holdings.now }
-{
-    first_bad(constraints)
-        .or_else(|| first_bad(points))
-        .or_else(|| first_bad(factors))
-        .or_else(|| first_bad(holdings))
-}
+    /// The place of the first entry whose figures or letters are out of range: constraints before points, shift factors
+    /// and holdings.
+    pub(crate) fn bad_entry(&self) -> Option<usize>
+        ensures { result ≡ bad_entry (tables_in self.now) }
+    {
+        first_bad(self.constraints)
+            .or_else(|| first_bad(self.points))
+            .or_else(|| first_bad(self.factors))
+            .or_else(|| first_bad(self.holdings))
+    }
 
-/// The bytes of the package of an hour with so many constraints, points and holdings.
-pub(crate) fn package_length(constraints: usize, points: usize, holdings: usize) -> usize
-    requires { sizes_in constraints points (points * constraints) holdings ≡ true }
-    ensures { result ≡ 20 + constraints * 9 + points * (2 * constraints + 16) + holdings * 23 }
-{
-    20 + constraints * 9 + points * (2 * constraints + 16) + holdings * 23
+    /// The bytes of the hour's package.
+    pub(crate) fn package_length(&self) -> usize
+        requires { sizes_ok (tables_in self.now) ≡ true }
+        ensures { result ≡ 20 + length self.now.constraints.now * 9 + length self.now.points.now * (2 * length self.now.constraints.now + 16) + length self.now.holdings.now * 23 }
+    {
+        let constraints = self.constraints.len();
+        let points = self.points.len();
+        20 + constraints * 9 + points * (2 * constraints + 16) + self.holdings.len() * 23
+    }
 }

@@ -9,9 +9,10 @@ ghost use Rattle.buffer.specs.Appends.{Appends, HasRoom};
 ghost use Rattle.format.specs.Hours.{tables, hour_of, package_of};
 ghost use Rattle.format.specs.Reading.{reads_tables};
 ghost use Rattle.format.specs.Writing.{sizes_ok, writes, written};
+ghost use Rattle.writer.specs.Laid.{tables_in};
 
-use crate::pieces::{put_points, put_records};
-use crate::sizes::{bad_entry, package_length, sizes_ok};
+use crate::pieces::{put_entries, put_points};
+use crate::tables::HourTables;
 use buffer::Output;
 use codec::day_bytes;
 use refusals::{Cause, Refusal};
@@ -29,26 +30,18 @@ fn package_head(day: &Day, long: u32) -> [u8; 20]
 }
 
 /// The package of an hour whose tables passed their tests, in a buffer with room for it.
-fn put_package(
-    day: &Day,
-    constraints: &[ConstraintRow],
-    points: &[PointRow],
-    factors: &[i16],
-    holdings: &[HoldingRow],
-    out: &mut Output,
-    long: usize,
-)
-    requires sizes { sizes_ok (tables (plain_day day.now) constraints.now points.now factors.now holdings.now) ≡ true }
-    requires long { long ≡ length (package_of (hour_of (tables (plain_day day.now) constraints.now points.now factors.now holdings.now))) }
+fn put_package(tables: &HourTables, out: &mut Output, long: usize)
+    requires sizes { sizes_ok (tables_in tables.now) ≡ true }
+    requires long { long ≡ length (package_of (hour_of (tables_in tables.now))) }
     requires small { long ≤ 44340 }
     requires room { HasRoom out.old long }
-    ensures wrote { Appends out.old (package_of (hour_of (tables (plain_day day.now) constraints.now points.now factors.now holdings.now))) out.new }
-    ensures fits { AllByRecursion HoldingFits holdings.now }
+    ensures wrote { Appends out.old (package_of (hour_of (tables_in tables.now))) out.new }
+    ensures fits { AllByRecursion HoldingFits tables.now.holdings.now }
 {
-    out.put(&package_head(day, long as u32 - 4));
-    put_records(constraints, out);
-    put_points(points, factors, constraints.len(), out);
-    put_records(holdings, out);
+    out.put(&package_head(tables.day, long as u32 - 4));
+    put_entries(tables.constraints, out);
+    put_points(tables.points, tables.factors, tables.constraints.len(), out);
+    put_entries(tables.holdings, out);
 }
 
 /// Writes the package of an hour into the caller's buffer and answers its length, or refuses by the first test that fails,
@@ -65,24 +58,26 @@ pub fn write_package(
     ensures buffer { out.new ≡ written (writes (tables (plain_day day.now) constraints.now points.now factors.now holdings.now) (length out.old)) out.old }
     ensures reads_back { IfOk result (λ n. reads_tables (take n out.new) ≡ Ok (tables (plain_day day.now) constraints.now points.now factors.now holdings.now)) }
 {
-    if !sizes_ok(
-        constraints.len(),
-        points.len(),
-        factors.len(),
-        holdings.len(),
-    ) {
+    let tables = HourTables {
+        day,
+        constraints,
+        points,
+        factors,
+        holdings,
+    };
+    if !tables.sizes_ok() {
         return Err(Refusal {
             cause: Cause::Sizes,
             place: 0,
         });
     }
-    if let Some(place) = bad_entry(constraints, points, factors, holdings) {
+    if let Some(place) = tables.bad_entry() {
         return Err(Refusal {
             cause: Cause::BadEntry,
             place,
         });
     }
-    let long = package_length(constraints.len(), points.len(), holdings.len());
+    let long = tables.package_length();
     if out.len() < long {
         return Err(Refusal {
             cause: Cause::TooShort,
@@ -93,14 +88,6 @@ pub fn write_package(
         buffer: out,
         len: 0,
     };
-    put_package(
-        day,
-        constraints,
-        points,
-        factors,
-        holdings,
-        &mut package,
-        long,
-    );
+    put_package(&tables, &mut package, long);
     Ok(package.len)
 }

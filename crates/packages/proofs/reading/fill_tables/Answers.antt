@@ -1,4 +1,4 @@
-use Rattle.std.proofs.Common.{◌≡◌, ℕ, ◌*◌, List, [], ◌++◌, length, drop, sym, ap, ◌∙◌, subst, append-nil}
+use Rattle.std.proofs.Common.{◌≡◌, ℕ, List, [], ◌++◌, length, drop, sym, ap, ◌∙◌, subst, append-nil}
 use Rattle.std.proofs.lemmas.List.{length-map}
 use Rattle.codec.specs.Bytes.{Bytes}
 use Rattle.codec.specs.Records.{encode_constraint, encode_placed, encode_holding}
@@ -8,10 +8,6 @@ use Rattle.std.specs.List.{AllByRecursion}
 use Rattle.packages.specs.Filling.{IsPlaced}
 use Rattle.packages.proofs.Rowing.{spelling, spelling_records, spelling_rows, spelling_same, spelling_length, constraints_read, holdings_read, points_read, points_placed, passed, laid_by}
 use Rattle.packages.proofs.reading.fill_tables.Goals as goal
-
-pub fill_rows-requires : goal.fill_rows-requires
-fill_rows-requires c =
-    c.requires ∙ ap (λ m. m * length c.args.constraints.now) (sym c.fill-2.auto.table) ∙ ap (λ m. length c.fill-2.new.table * m) (sym c.fill.auto.table)
 
 pub returns : goal.returns
 returns c = λ t e nc np nf nh.

@@ -1,4 +1,4 @@
-use Rattle.std.proofs.Common.{◌≡◌, ℕ, ◌+◌, ◌*◌, ◌<◌, ◌≤◌, true, false, cond, leb, List, length, ℤ, Ok, Err, sym, refl, ap, ◌∙◌, inl, inr, arith, length-append, rules, le-leb}
+use Rattle.std.proofs.Common.{◌≡◌, ℕ, ◌+◌, ◌*◌, ◌<◌, ◌≤◌, true, false, cond, leb, List, length, ℤ, Ok, Err, sym, refl, ap, ◌∙◌, arith, length-append, rules, le-leb}
 use borrow.Author.Tests.{lt-leb}
 use Rattle.refusals.specs.Numbers.{refused_at}
 use Rattle.rows.specs.declared.plain.HoldingRow.{HoldingRow}
@@ -7,7 +7,6 @@ use Rattle.buffer.specs.declared.output.Output.{Output}
 use Rattle.buffer.proofs.Joins.{appended, whole}
 use Rattle.statement.specs.declared.figures.HourFigures.{HourFigures}
 use Rattle.statement.specs.Lines.{holding_lines, hour_line_of, statement_of, sizes_ok, stated, length_of, written}
-use Rattle.statement.specs.Room.{Room}
 use Rattle.statement.proofs.Longs.{has_room}
 use Rattle.statement.proofs.stating.write_statement.Goals as goal
 
@@ -40,24 +39,6 @@ returns-then-not-has_room c =
     let s : sizes_ok (length c.args.holdings.now) (length c.args.amounts.now) ≡ true = sym c.if-not-sizes_ok.ensures in
     let e = short c.args.day.now.hour c.args.holdings.now c.args.amounts.now c.args.figures.now (length c.args.out.now) s (omega (arith, c.hour_len-hour_line.ensures.value, c.if-not-has_room.ensures.short refl)) in
     record { answer = ap length_of (sym e); buffer = ap (λ r. written r c.args.out.now) (sym e) }
-
--- the room for the lines, where there is room for the hour's line after them
-without : (room longest long hour : ℕ) → Room room (longest + hour) (long + hour) → Room room (0 + longest) (0 + long)
-without room longest long hour (inl p) = inl (omega arith)
-without room longest long hour (inr p) = inr (omega arith)
-
-pub put_lines-requires : goal.put_lines-requires
-put_lines-requires c =
-    record {
-      sizes = sym c.if-not-sizes_ok.ensures;
-      room = without (length c.args.out.now) (53 * length c.args.holdings.now) (length (holding_lines 0 c.args.holdings.now c.args.amounts.now)) c.hour_len-hour_line.result (c.if-not-has_room.ensures.fits refl);
-    }
-
-pub put_hour-requires : goal.put_hour-requires
-put_hour-requires c =
-    let w = c.put_lines.ensures.wrote.wrote in
-    let e = has_room (length c.args.out.now) (53 * length c.args.holdings.now + c.hour_len-hour_line.result) (length (holding_lines 0 c.args.holdings.now c.args.amounts.now) + c.hour_len-hour_line.result) (omega (arith, w.end, c.put_lines.ensures.bound)) (c.if-not-has_room.ensures.fits refl) in
-    omega (arith, w.end, w.len, c.hour_len-hour_line.ensures.value)
 
 pub returns : goal.returns
 returns c =

@@ -26,8 +26,8 @@ itself ps i h = get_or_default ps i blank (turn ps i) h
 head : (q to : Output) (bytes : List ℕ) (n : ℕ) (p : PointRow) → bytes ≡ be2 (14 + 2 * n) ++ (80 ∷ encode_point p) → (HasRoom q (length bytes) → Appends q bytes to) → HasRoom q 16 → Appends q (be2 (14 + 2 * n) ++ (80 ∷ encode_point p)) to
 head q to bytes n p e put room = subst (λ (bs : List ℕ). Appends q bs to) e (put (omega (arith, ap length e)))
 
-pub put_records-requires : goal.put_records-requires
-put_records-requires c =
+pub put_entries-requires : goal.put_entries-requires
+put_entries-requires c =
     let p = turn c.args.points.now c.loop-i.i in
     let h : HasRoom c.args.out.now (length (flat_map record_of (placed c.args.columns c.args.points.now c.args.factors.now))) = omega (arith, c.requires.room, ap length (records_flat 80 encode_placed (placed c.args.columns c.args.points.now c.args.factors.now))) in
     let room = head_room c.args.columns c.args.points.now c.args.factors.now c.loop-i.i _ p c.loop-i-test.true (itself _ _ c.loop-i-test.true) refl c.requires.rows c.args.out.now c.loop-i.out c.loop-i.invariant h in
@@ -40,7 +40,7 @@ loop-i-preserved c =
     let h : HasRoom c.args.out.now (length (flat_map record_of (placed c.args.columns c.args.points.now c.args.factors.now))) = omega (arith, c.requires.room, ap length (records_flat 80 encode_placed (placed c.args.columns c.args.points.now c.args.factors.now))) in
     let room = head_room c.args.columns c.args.points.now c.args.factors.now c.loop-i.i _ p c.loop-i-test.true (itself _ _ c.loop-i-test.true) refl c.requires.rows c.args.out.now c.loop-i.out c.loop-i.invariant h in
     let v = head c.loop-i.out c.put.new.self c.point_head.result c.args.columns p c.point_head.ensures c.put.ensures.wrote room in
-    point_more c.args.columns c.args.points.now c.args.factors.now c.loop-i.i _ p c.loop-i-test.true (itself _ _ c.loop-i-test.true) refl c.requires.rows c.args.out.now c.loop-i.out c.loop-i.invariant c.put.new.self c.put_records.new.out v c.put_records.ensures.wrote
+    point_more c.args.columns c.args.points.now c.args.factors.now c.loop-i.i _ p c.loop-i-test.true (itself _ _ c.loop-i-test.true) refl c.requires.rows c.args.out.now c.loop-i.out c.loop-i.invariant c.put.new.self c.put_entries.new.out v c.put_entries.ensures.wrote
 
 pub returns : goal.returns
 returns c =

@@ -1,7 +1,7 @@
 use Rattle.std.proofs.Common.{ℕ, List, length, ap, subst, arith}
 use Rattle.buffer.specs.Appends.{Appends}
 use Rattle.buffer.proofs.Joins.{appended}
-use Rattle.writer.proofs.recorded.HoldingRowRecorded.put_record.Goals as goal
+use Rattle.writer.proofs.encoded.HoldingRowEncoded.put_bytes.Goals as goal
 
 pub returns-clause-wrote : goal.returns-clause-wrote
 returns-clause-wrote c =
