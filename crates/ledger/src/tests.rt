@@ -19,7 +19,7 @@ pub fn positive_cents(cents: &Cents) -> u64
 pub fn is_within(cents: &Cents, total: u64) -> bool
     ensures { result ≡ within total cents.now }
 {
-    cents.value >= 0 && positive_cents(cents) <= total
+    u64::try_from(cents.value).is_ok_and(|value| value <= total)
 }
 
 impl Sound for LoadLine {

@@ -101,6 +101,7 @@ impl OpenMonth {
             owner: 0,
             amount: NOTHING,
         };
+        // no heap is used: the largest hour has room, and what each holding comes to stands in the front
         let mut table = [none; 1024];
         let asked = AskedHour {
             instrument,

@@ -77,8 +77,8 @@ impl Books {
         RollSums::of(roll) == own
     }
 
-    #[tactic(auto, unfolding(ledger::specs::Figures::tied))]
     /// Whether the roll is the one of these books and of what was refunded; the rest of the month has no part in it.
+    #[tactic(auto, unfolding(ledger::specs::Figures::tied))]
     pub(crate) fn holds(&self, refunds: u64, roll: &[RollLine]) -> bool
         ensures { (balance payments : ℕ) → result ≡ tied (of_books self.now refunds balance payments) roll.now }
     {

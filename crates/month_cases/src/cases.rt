@@ -1,8 +1,9 @@
 //! Sizes, holdings in turn, a whole month with refused calls between, and the largest hour.
-use crate::posts::{Room, first_hour, hour};
+use crate::posts::{Room, first_hour, hour, new_month, unexpected};
 use crate::tables::*;
+use anyhow::{Result, anyhow};
 use ledger::{CLEAR_ROLL, HourAnswer, LoadLine, RollLine};
-use month::{RefundedMonth, open};
+use month::{ClosedFigures, OpenMonth, RefundedMonth, open};
 use payoff::{Obligation, Refund};
 use refusals::Refusal;
 use rows::HoldingRow;
@@ -107,11 +108,9 @@ fn settled_hour() -> [HoldingRow; 3] {
 }
 
 /// A month of two hours with refused calls between, and its refund.
-pub(crate) fn whole_month(rt: &impl Print) -> io::Result<()> {
+pub(crate) fn whole_month(rt: &impl Print) -> Result<()> {
     let mut roll = [CLEAR_ROLL; 2];
-    let Ok(mut m) = open(&mut roll) else {
-        return Ok(());
-    };
+    let mut m = new_month(&mut roll)?;
     let held = settled_hour();
     report(rt, "hour 2", hour(&mut m, &mut roll, 2, 4_000, &held))?;
     report(
@@ -128,21 +127,24 @@ pub(crate) fn whole_month(rt: &impl Print) -> io::Result<()> {
     roll[0].credit = Cents { value: 6_000 };
     report(rt, "hour 3", hour(&mut m, &mut roll, 3, 9_000, &[]))?;
     roll[1].short = Cents { value: -1 };
-    let m = match m.refund(&mut roll) {
-        Ok(_) => return Ok(()),
+    let m = refused_refund(rt, m, &mut roll)?;
+    roll[1].short = Cents { value: 2_000 };
+    let m = m
+        .refund(&mut roll)
+        .map_err(|back| unexpected(back.refusal))?;
+    refunds(rt, &roll[0], &roll[1])?;
+    closing(rt, m, &roll)
+}
+
+/// Refunds a month whose roll has a negative figure: it is handed back.
+fn refused_refund(rt: &impl Print, m: OpenMonth, roll: &mut [RollLine]) -> Result<OpenMonth> {
+    match m.refund(roll) {
+        Ok(_) => Err(anyhow!("a negative figure is refunded")),
         Err(back) => {
             let e = back.refusal;
             println!(rt; "refund with a negative figure: {e}")?;
-            back.month
+            Ok(back.month)
         }
-    };
-    roll[1].short = Cents { value: 2_000 };
-    match m.refund(&mut roll) {
-        Ok(m) => {
-            refunds(rt, &roll[0], &roll[1])?;
-            closing(rt, m, &roll)
-        }
-        Err(_) => Ok(()),
     }
 }
 
@@ -152,59 +154,52 @@ fn refunds(rt: &impl Print, first: &RollLine, second: &RollLine) -> io::Result<(
     println!(rt; "refunds {first} and {second}")
 }
 
-/// Closes the month, and answers it where that is refused.
-fn try_close(
+/// Closes the month on loads that are refused: it is handed back.
+fn refused_close(
     rt: &impl Print,
     m: RefundedMonth,
     roll: &[RollLine],
     loads: &mut [LoadLine],
-) -> io::Result<Option<RefundedMonth>> {
+) -> Result<RefundedMonth> {
     match m.close(roll, loads) {
-        Ok(m) => {
-            let told = m.figures();
-            let hours = told.hours;
-            let rents = told.rents;
-            let credits = told.credits;
-            let charges = told.charges;
-            let short = told.shortfall_charges;
-            let refunds = told.refunds;
-            let payments = told.load_payments;
-            println!(rt;
-                "closed: hours {hours} rents {rents} credits {credits} charges {charges} short {short} refunds {refunds} payments {payments}"
-            )?;
-            Ok(None)
-        }
+        Ok(_) => Err(anyhow!("loads outside their limits are taken")),
         Err(back) => {
             let e = back.refusal;
             println!(rt; "close: {e}")?;
-            Ok(Some(back.month))
+            Ok(back.month)
         }
     }
 }
 
 /// Loads that are too many, too large, paid before, and without MWh; then loads of 1 and 3 MWh.
-fn closing(rt: &impl Print, m: RefundedMonth, roll: &[RollLine]) -> io::Result<()> {
-    let mut many = [load(1, 0); 65];
-    let Some(m) = try_close(rt, m, roll, &mut many)? else {
-        return Ok(());
-    };
-    let mut large = [load(1, 0), load(40_000_001, 0)];
-    let Some(m) = try_close(rt, m, roll, &mut large)? else {
-        return Ok(());
-    };
-    let mut paid = [load(1, 0), load(1, 0), load(1, 5)];
-    let Some(m) = try_close(rt, m, roll, &mut paid)? else {
-        return Ok(());
-    };
-    let mut idle = [load(0, 0); 2];
-    let Some(m) = try_close(rt, m, roll, &mut idle)? else {
-        return Ok(());
-    };
+fn closing(rt: &impl Print, m: RefundedMonth, roll: &[RollLine]) -> Result<()> {
+    let m = refused_close(rt, m, roll, &mut [load(1, 0); 65])?;
+    let m = refused_close(rt, m, roll, &mut [load(1, 0), load(40_000_001, 0)])?;
+    let m = refused_close(rt, m, roll, &mut [load(1, 0), load(1, 0), load(1, 5)])?;
+    let m = refused_close(rt, m, roll, &mut [load(0, 0); 2])?;
     let mut loads = [load(1, 0), load(3, 0)];
-    let _ = try_close(rt, m, roll, &mut loads)?;
+    let m = m
+        .close(roll, &mut loads)
+        .map_err(|back| unexpected(back.refusal))?;
+    figures(rt, &m.figures())?;
     let first = loads[0].paid.value;
     let second = loads[1].paid.value;
-    println!(rt; "loads get {first} and {second}")
+    println!(rt; "loads get {first} and {second}")?;
+    Ok(())
+}
+
+/// Prints the figures of a closed month.
+fn figures(rt: &impl Print, told: &ClosedFigures) -> io::Result<()> {
+    let hours = told.hours;
+    let rents = told.rents;
+    let credits = told.credits;
+    let charges = told.charges;
+    let short = told.shortfall_charges;
+    let refunds = told.refunds;
+    let payments = told.load_payments;
+    println!(rt;
+        "closed: hours {hours} rents {rents} credits {credits} charges {charges} short {short} refunds {refunds} payments {payments}"
+    )
 }
 
 /// Eight pairs of points.
@@ -220,11 +215,9 @@ const PAIRS: [(u16, u16); 8] = [
 ];
 
 /// 128 owners and 1,024 holdings; the last made the first again; and one holding too many.
-pub(crate) fn largest_hour(rt: &impl Print) -> io::Result<()> {
+pub(crate) fn largest_hour(rt: &impl Print) -> Result<()> {
     let mut roll = [CLEAR_ROLL; 128];
-    let Ok(mut m) = open(&mut roll) else {
-        return Ok(());
-    };
+    let mut m = new_month(&mut roll)?;
     let mut held = [obligation(0, 0, 0, 1); 1025];
     for (i, holding) in held.iter_mut().enumerate() {
         let (source, sink) = PAIRS[i % 8];
@@ -247,5 +240,6 @@ pub(crate) fn largest_hour(rt: &impl Print) -> io::Result<()> {
         rt,
         "the largest hour",
         hour(&mut m, &mut roll, 1, 0, &held[0..1024]),
-    )
+    )?;
+    Ok(())
 }

@@ -1,16 +1,13 @@
 //! The limits of money: an hour, or a month, that just fits, and one that is a cent over.
-use crate::posts::hour;
+use crate::posts::{hour, new_month};
 use crate::tables::*;
+use anyhow::Result;
 use ledger::CLEAR_ROLL;
-use month::open;
-use std::io;
 
 /// Credits and charges of an hour at 3,000,000,000 cents and one over.
-pub(crate) fn hour_money(rt: &impl Print) -> io::Result<()> {
+pub(crate) fn hour_money(rt: &impl Print) -> Result<()> {
     let mut roll = [CLEAR_ROLL; 2];
-    let Ok(mut m) = open(&mut roll) else {
-        return Ok(());
-    };
+    let mut m = new_month(&mut roll)?;
     let paid = [obligation(0, 0, 1, 100_000), obligation(1, 0, 2, 1)];
     let charged = [obligation(0, 1, 0, 100_000), obligation(1, 2, 0, 1)];
     report(
@@ -32,15 +29,14 @@ pub(crate) fn hour_money(rt: &impl Print) -> io::Result<()> {
         rt,
         "charges at the limit",
         hour(&mut m, &mut roll, 744, 0, &charged[0..1]),
-    )
+    )?;
+    Ok(())
 }
 
 /// A month's balance and its total shortfall at 3,000,000,000 cents and one over.
-pub(crate) fn month_money(rt: &impl Print) -> io::Result<()> {
+pub(crate) fn month_money(rt: &impl Print) -> Result<()> {
     let mut roll = [CLEAR_ROLL; 2];
-    let Ok(mut m) = open(&mut roll) else {
-        return Ok(());
-    };
+    let mut m = new_month(&mut roll)?;
     let paid = [obligation(0, 0, 1, 100_000)];
     let cent = [obligation(1, 0, 2, 1)];
     report(
@@ -67,5 +63,6 @@ pub(crate) fn month_money(rt: &impl Print) -> io::Result<()> {
         rt,
         "the same hour again",
         hour(&mut m, &mut roll, 2, 0, &[]),
-    )
+    )?;
+    Ok(())
 }

@@ -7,9 +7,9 @@ mod limits;
 mod posts;
 mod tables;
 
-use std::io;
+use anyhow::Result;
 
-fn main(rt: HostRuntime) -> io::Result<()> {
+fn main(rt: HostRuntime) -> Result<()> {
     cases::sizes(&rt)?;
     cases::sizes_and_entries(&rt)?;
     cases::holdings_in_turn(&rt)?;

@@ -1,5 +1,6 @@
 //! The posts of the cases: one call, with what differs from case to case.
 use crate::tables::*;
+use anyhow::anyhow;
 use ledger::{CLEAR_HOUR, CLEAR_ROLL, HourAnswer, RollLine};
 use month::{OpenMonth, open};
 use payoff::{Instrument, Obligation, PlainTables};
@@ -82,4 +83,14 @@ pub(crate) fn first_hour<I: Instrument>(
         instrument,
         room,
     )
+}
+
+/// Opens the month of a roll that no case refuses.
+pub(crate) fn new_month(roll: &mut [RollLine]) -> anyhow::Result<OpenMonth> {
+    open(roll).map_err(unexpected)
+}
+
+/// A refusal that no case expects.
+pub(crate) fn unexpected(e: Refusal) -> anyhow::Error {
+    anyhow!("refused where it is not: {e}")
 }

@@ -1,7 +1,6 @@
 -- The steps of the loop that shares.
-use Rattle.std.proofs.Common.{◌≡◌, ℕ, zero, suc, ◌+◌, ◌-◌, ◌*◌, ◌/◌, ◌<◌, ◌≤◌, List, [], ◌∷◌, ◌++◌, length, get_or, take, drop, set, refl, ap, ◌∙◌, subst, arith}
-use Rattle.std.specs.List.{AllByRecursion}
-use Rattle.std.proofs.lemmas.List.{drop_more, take_more_set, drop-set-lt, append_assoc, take_all, drop_all, append-nil}
+use Rattle.std.proofs.Common.{◌≡◌, ℕ, zero, suc, ◌+◌, ◌-◌, ◌*◌, ◌/◌, ◌<◌, ◌≤◌, List, [], ◌∷◌, ◌++◌, length, get_or, take, drop, refl, ap, ◌∙◌, arith}
+use Rattle.std.proofs.lemmas.List.{take_all, drop_all, append-nil}
 use Rattle.sharing.specs.Shares.{up_to, share_of, weights_of}
 use Rattle.sharing.proofs.Parts.{up_to_cons}
 
@@ -10,21 +9,11 @@ abbrev pub share_after : (s v b w : ℕ) → ℕ
 share_after s v b w = s * (b + w) / v - s * b / v
 
 module _ {L : Type 0} where
-  pub all_step : (P : L → Type 0) (xs : List L) (i : ℕ) (d : L) → i < length xs → AllByRecursion P (drop i xs) → P (get_or xs i d) × AllByRecursion P (drop (i + 1) xs)
-  all_step P xs i d h a = let F : List L → Type 0 = λ l. AllByRecursion P l in subst F (drop_more xs i d h) a
-
-  pub drop_after : (xs : List L) (i : ℕ) (y : L) → drop (i + 1) (set xs i y) ≡ drop (i + 1) xs
-  drop_after xs i y = drop-set-lt (i + 1) xs i y (omega arith)
-
   module _ (weight : L → ℕ) (given : L → ℕ → L) where
     -- lines after lines of weight b, each with its share
     abbrev pub shared_from : (s v b : ℕ) → List L → List L
     shared_from s v b [] = []
     shared_from s v b (x ∷ xs) = given x (share_after s v b (weight x)) ∷ shared_from s v (b + weight x) xs
-
-    pub shared_more : (s v b : ℕ) (xs : List L) (i : ℕ) (d y : L) → i < length xs → y ≡ given (get_or xs i d) (share_after s v b (weight (get_or xs i d))) → take (i + 1) (set xs i y) ++ shared_from s v (b + weight (get_or xs i d)) (drop (i + 1) (set xs i y)) ≡ take i xs ++ shared_from s v b (drop i xs)
-    shared_more s v b xs i d y h e =
-        rw (take_more_set xs i y h, drop_after xs i y, append_assoc (take i xs) (y ∷ []), drop_more xs i d h, e)
 
     pub shared_all : (s v b : ℕ) (xs : List L) (i : ℕ) → length xs ≤ i → take i xs ++ shared_from s v b (drop i xs) ≡ xs
     shared_all s v b xs i h = rw (take_all i xs h, drop_all i xs h) (append-nil xs)

@@ -1,10 +1,8 @@
-use Rattle.std.proofs.Common.{◌≡◌, ◌+◌, ◌^◌, ◌<◌, ◌++◌, length, get_or, take, drop, set, pos, ◌+ℤ◌, ◌<ℤ◌, sym, refl, ap, ◌∙◌, subst, arith}
-use Rattle.std.specs.List.{AllByRecursion}
-use Rattle.std.proofs.lemmas.List.Sums.{sum_by-drop_more}
+use Rattle.std.proofs.Common.{length, get_or, sym, ap, ◌∙◌, arith}
 use Rattle.sharing.specs.Shares.{weights_of}
 use Rattle.sharing.proofs.Laws.{fair}
-use Rattle.sharing.proofs.Parts.{part_mono, up_to_all}
-use Rattle.sharing.proofs.Steps.{share_after, shared_from, all_step, drop_after, shared_more, shared_all, shared_out, length_shared}
+use Rattle.sharing.proofs.Parts.{up_to_all}
+use Rattle.sharing.proofs.Steps.{shared_all, shared_out, length_shared}
 use Rattle.sharing.proofs.share.Goals as goal
 
 pub returns : goal.returns
