@@ -4,6 +4,7 @@ use packages::Filled;
 use rows::{ConstraintRow, HoldingRow, PointRow};
 
 /// An hour's tables, each with room for the most that an hour has: what its package told stands in front.
+// no heap is used, so that an hour can always be had: arrays, and beside them how much of each was found
 #[derive(Drop)]
 pub struct HourTables {
     pub(crate) found: Filled,

@@ -99,6 +99,8 @@ impl Instrument for Obligation {
     }
 }
 
+// the two instruments differ in their rule alone, which each names where it calls
+
 /// A PTP Option: pays the sink's price less the source's where that is positive.
 #[derive(Clone, Copy)]
 pub struct PtpOption;

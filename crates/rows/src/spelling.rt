@@ -53,6 +53,7 @@ impl TryFrom<char> for Block {
     }
 }
 
+// a method, and no number of the enum or From: it says that the number is a letter
 impl PointKind {
     /// The letter that names the kind.
     pub fn letter(self) -> u8
