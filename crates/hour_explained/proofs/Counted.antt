@@ -1,5 +1,5 @@
 -- The largest owner so far, and of all holdings.
-use Rattle.std.proofs.Common.{◌≡◌, ℕ, ◌+◌, max, List, [], ◌∷◌, ◌∙◌, arith}
+use Rattle.std.proofs.Common.{◌≡◌, ℕ, ◌+◌, max, List, [], ◌∷◌, arith}
 use Rattle.std.specs.List.{fold}
 use Rattle.rows.specs.declared.plain.HoldingRow.{HoldingRow}
 use Rattle.hour_explained.specs.Explained.{owners_in}

@@ -2,10 +2,8 @@
 use Rattle.std.proofs.Common.{◌≡◌, List, ℤ, Result, subst, MatchResult}
 use Rattle.refusals.specs.declared.refusal.Refusal.{Refusal}
 use Rattle.refusals.specs.Numbers.{told}
-use Rattle.rows.specs.declared.plain.ConstraintRow.{ConstraintRow}
 use Rattle.rows.specs.declared.plain.DayRow.{DayRow}
 use Rattle.rows.specs.declared.plain.HoldingRow.{HoldingRow}
-use Rattle.rows.specs.declared.plain.PointRow.{PointRow}
 use Rattle.payoff.specs.Rules.{Meaning}
 use Rattle.payoff.specs.Tables as payoff
 use Rattle.format.specs.Hours.{Tables}
