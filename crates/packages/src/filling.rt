@@ -25,8 +25,7 @@ pub(crate) fn fill<R: Row>(reader: &mut Reader, table: &mut [R]) -> Option<()>
     Some(())
 }
 
-/// Fills a table with the shift factors of so many P records from the reader's place on, a row
-/// for each.
+/// Fills a table with the shift factors of so many P records from the reader's place on, a row for each.
 pub(crate) fn fill_rows(
     reader: &mut Reader,
     points: usize,

@@ -5,6 +5,7 @@
 mod counts;
 mod filled;
 mod filling;
+mod lent;
 mod reading;
 mod rest;
 mod testing;
