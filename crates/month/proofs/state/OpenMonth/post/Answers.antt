@@ -1,4 +1,4 @@
-use Rattle.std.proofs.Common.{refl, ap, ◌∙◌, arith}
+use Rattle.std.proofs.Common.{refl, ◌∙◌, arith}
 use Rattle.month.proofs.Columns.{tied_true}
 use Rattle.month.proofs.Posts.{roll_roomy, answered_is, ok, owners_ready, amounts_ready, sums_ready, month_ready, flows, roll_of_hour, sheet_of_hour, amounts_of_hour, month_of_hour}
 use Rattle.month.proofs.state.OpenMonth.post.Goals as goal
