@@ -1,10 +1,6 @@
 use Rattle.std.proofs.Common.{refl}
-use Rattle.std.proofs.lemmas.Result.{MatchResult-from_err}
 use Rattle.short_month.proofs.Whole.{two_hours}
 use Rattle.short_month.proofs.settle_two_hours.Goals as goal
-
-pub returns-in_err-post-2 : goal.returns-in_err-post-2
-returns-in_err-post-2 g c = MatchResult-from_err c.from_residual-in_err-post-2.result _ _ c.from_residual-in_err-post-2.ensures.0 (λ y. refl)
 
 pub returns : goal.returns
 returns g c =

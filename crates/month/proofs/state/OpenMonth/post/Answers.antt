@@ -1,10 +1,7 @@
-use Rattle.std.proofs.Common.{refl, ap, ◌∙◌, arith}
+use Rattle.std.proofs.Common.{refl, ◌∙◌, arith}
 use Rattle.month.proofs.Columns.{tied_true}
 use Rattle.month.proofs.Posts.{roll_roomy, answered_is, ok, owners_ready, amounts_ready, sums_ready, month_ready, flows, roll_of_hour, sheet_of_hour, amounts_of_hour, month_of_hour}
 use Rattle.month.proofs.state.OpenMonth.post.Goals as goal
-
-pub slice_bounds-hour-end : goal.slice_bounds-hour-end
-slice_bounds-hour-end g c = omega (arith, (ok c.in_ok-sums.ensures).few, c.admit.auto.dues)
 
 pub invariant_of-hour : goal.invariant_of-hour
 invariant_of-hour g c = let a = c.in_ok-sums.ensures in record { on_roll = owners_ready a; credits = (sums_ready a).0; charges = (sums_ready a).1 }
@@ -16,9 +13,6 @@ write_hour-requires g c =
 
 pub enter-requires : goal.enter-requires
 enter-requires g c = let a = c.in_ok-sums.ensures in record { later = (ok a).later; month = month_ready a; flows = flows a _ refl }
-
-pub answer-requires : goal.answer-requires
-answer-requires g c = omega (arith, (month_ready c.in_ok-sums.ensures).1, ap (λ h. h.balance) c.enter.ensures)
 
 pub returns : goal.returns
 returns g c =
