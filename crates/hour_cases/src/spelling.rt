@@ -15,6 +15,7 @@ pub(crate) fn bytes_of(heap: Global, text: &str) -> Result<Vec<u8>, AllocError> 
 /// The text in which `\n` stands for each newline.
 pub(crate) fn lines_of(heap: Global, text: &str) -> Result<Vec<u8>, AllocError> {
     let mut bytes = Vec::new(heap);
+    // an escape is two bytes in a row, which no split keeps apart from a lone one
     let mut escaped = false;
     for b in text.bytes() {
         if escaped && b == b'n' {

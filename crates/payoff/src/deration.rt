@@ -52,6 +52,7 @@ pub(crate) fn deration_price(hour: &TestedTables, holding: &Holding) -> Price
 {
     let sources = hour.factors_of(holding.source);
     let sinks = hour.factors_of(holding.sink);
+    // a chain's closure would not know that what it is given has passed its tests, so the sum is a loop's
     let mut sum: u64 = 0;
     for (row, (source, sink)) in hour.plain.constraints.iter().zip(sources.iter().zip(sinks)) {
         sum += deration_term(row, *source, *sink);

@@ -25,11 +25,7 @@ fn target_price(rule: TargetRule, spread: Price) -> Price
 {
     match rule {
         TargetRule::Spread => spread,
-        TargetRule::PositiveSpread => if spread.value > 0 {
-            spread
-        } else {
-            Price { value: 0 }
-        },
+        TargetRule::PositiveSpread => spread.max(Price { value: 0 }),
     }
 }
 
