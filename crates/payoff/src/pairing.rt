@@ -7,14 +7,28 @@ ghost use Rattle.payoff.specs.View.{tables_of, plain_pair, pair_of};
 
 use crate::pair::Pair;
 use crate::tested::TestedTables;
-use rows::{FromRow, Holding, Point, PointRow};
+use rows::{Holding, Point, PointKind, PointRow};
+use units::Price;
 
-/// The point of a row that has passed its test.
+/// The kind that a point's letter names, which is one of the three.
+fn named_kind(letter: u8) -> PointKind
+    requires { is_some (point_of letter) ≡ true }
+    ensures { point_of letter ≡ Some result }
+{
+    PointKind::try_from(letter as char).unwrap()
+}
+
+/// The point of a row that has passed its test. `Point::typed` would test it again for each holding.
 fn typed_point(row: &PointRow) -> Point
     requires { point_ok row.now ≡ true }
     ensures { plain_point result ≡ row.now }
 {
-    Point::typed(row).unwrap()
+    Point {
+        kind: named_kind(row.letter),
+        price: Price { value: row.price },
+        minimum: Price { value: row.minimum },
+        maximum: Price { value: row.maximum },
+    }
 }
 
 impl TestedTables<'_> {
