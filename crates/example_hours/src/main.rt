@@ -44,6 +44,7 @@ fn main(rt: HostRuntime) -> anyhow::Result<()> {
     print_block(&rt, 22)?;
     print_block(&rt, 23)?;
     print_quantity(&rt, 0)?;
+    // a statement is written into what its caller lends
     let mut text = [0u8; 256];
     match settle_package(&standard_instrument(), &PACKAGE, &mut text) {
         Ok(length) => rt.stdout().write_all(&text[0..length])?,

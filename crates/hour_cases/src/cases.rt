@@ -6,6 +6,7 @@ use std::alloc::{AllocError, Global};
 
 /// What is printed of a package.
 fn printed(heap: Global, bytes: &[u8]) -> Result<Vec<u8>, AllocError> {
+    // a statement is written into what its caller lends
     let mut text = [0u8; LARGEST_STATEMENT];
     match settle_package(&standard_instrument(), bytes, &mut text) {
         Ok(length) => Vec::from_slice(heap, &text[0..length]),

@@ -7,6 +7,7 @@ use std::io;
 /// The bytes of a file, as far as a package may go.
 fn read_package_file(rt: &HostRuntime, name: &str) -> io::Result<Vec<u8>> {
     let mut file = File::open(rt, name)?;
+    // a package has a largest size, and only what came goes to the heap
     let mut bytes = [0u8; MOST_READ];
     let n = read_up_to(&mut file, &mut bytes)?;
     Ok(Vec::from_slice(rt.alloc(), &bytes[0..n])?)

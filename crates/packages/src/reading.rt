@@ -12,6 +12,7 @@ use crate::testing::test_package;
 use refusals::{Cause, Refusal};
 use rows::{ConstraintRow, HoldingRow, PointRow};
 
+// the caller lends each table by itself, so each is a parameter here
 /// Reads a package into the caller's tables: answers the hour that it is of and how many entries of each table it filled,
 /// or refuses by the first test that fails, and every table then stays.
 pub fn read_package(
@@ -36,10 +37,7 @@ pub fn read_package(
         holdings,
     };
     if !tables.have_room(&found) {
-        return Err(Refusal {
-            cause: Cause::TooShort,
-            place: 0,
-        });
+        return Err(Cause::TooShort.at(0));
     }
     tables.fill(bytes, &found);
     Ok(found)

@@ -17,16 +17,10 @@ fn admit(place: usize, in_order: bool, has_room: bool) -> Result<(), Refusal>
     ensures { told_by (λ _. place) result ≡ admit place in_order has_room (Ok place) (λ p. p) }
 {
     if !in_order {
-        return Err(Refusal {
-            cause: Cause::RecordOrder,
-            place,
-        });
+        return Err(Cause::RecordOrder.at(place));
     }
     if !has_room {
-        return Err(Refusal {
-            cause: Cause::TooManyRecords,
-            place,
-        });
+        return Err(Cause::TooManyRecords.at(place));
     }
     Ok(())
 }
@@ -70,10 +64,7 @@ fn take_record(place: usize, seen: &mut Counts, letter: u8, fields: &[u8]) -> Re
         b'C' => take_constraint(place, seen, fields),
         b'P' => take_point(place, seen, fields),
         b'H' => take_holding(place, seen, fields),
-        _ => Err(Refusal {
-            cause: Cause::RecordOrder,
-            place,
-        }),
+        _ => Err(Cause::RecordOrder.at(place)),
     }
 }
 

@@ -18,10 +18,7 @@ fn test_records(bytes: &[u8]) -> Result<Filled, Refusal>
     ensures { told_by seen_in result ≡ answered (λ h. seen_of (tables_of h)) (on_first (length bytes.now) (frame_of (drop 5 bytes.now))) }
 {
     let mut reader = Reader::new(bytes);
-    let no_day = Refusal {
-        cause: Cause::RecordOrder,
-        place: 0,
-    };
+    let no_day = Cause::RecordOrder.at(0);
     let first = reader.next()?.ok_or(no_day)?;
     if first.letter != b'D' {
         return Err(no_day);
@@ -41,10 +38,7 @@ fn test_records(bytes: &[u8]) -> Result<Filled, Refusal>
 pub(crate) fn test_package(bytes: &[u8]) -> Result<Filled, Refusal>
     ensures { told_by seen_in result ≡ answered seen_of (reads_tables bytes.now) }
 {
-    let untrue = Refusal {
-        cause: Cause::PackageLength,
-        place: 0,
-    };
+    let untrue = Cause::PackageLength.at(0);
     if bytes.len() > LARGEST {
         return Err(untrue);
     }
@@ -54,10 +48,7 @@ pub(crate) fn test_package(bytes: &[u8]) -> Result<Filled, Refusal>
         return Err(untrue);
     }
     if *version != 1 {
-        return Err(Refusal {
-            cause: Cause::Version,
-            place: 0,
-        });
+        return Err(Cause::Version.at(0));
     }
     test_records(bytes)
 }

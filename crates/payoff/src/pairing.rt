@@ -11,6 +11,7 @@ use rows::{Holding, Point, PointKind, PointRow};
 use units::Price;
 
 /// The kind that a point's letter names, which is one of the three.
+// an instrument is named so in the month: one function for both would have to be told what a letter means
 fn named_kind(letter: u8) -> PointKind
     requires { is_some (point_of letter) ≡ true }
     ensures { point_of letter ≡ Some result }

@@ -47,10 +47,7 @@ impl<'a> Reader<'a> {
         if self.rest.is_empty() {
             return Ok(None);
         }
-        let (entry, after) = split(self.rest).ok_or(Refusal {
-            cause: Cause::RecordLength,
-            place: self.place,
-        })?;
+        let (entry, after) = split(self.rest).ok_or(Cause::RecordLength.at(self.place))?;
         self.rest = after;
         self.place += 1;
         Ok(Some(entry))

@@ -10,6 +10,7 @@ use settlement::{LARGEST_STATEMENT, refused_line, settle_package};
 use std::io::Write;
 
 fn main(rt: HostRuntime) -> anyhow::Result<()> {
+    // no heap is used: package and statement have a largest size
     let mut bytes = [0u8; MOST_READ];
     let n = read_up_to(&mut rt.stdin(), &mut bytes)?;
     let mut text = [0u8; LARGEST_STATEMENT];

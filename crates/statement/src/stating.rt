@@ -48,17 +48,11 @@ pub fn write_statement(
     ensures buffer { out.new ≡ written (stated day.now.hour holdings.now amounts.now figures.now (length out.old)) out.old }
 {
     if !sizes_ok(holdings.len(), amounts.len()) {
-        return Err(Refusal {
-            cause: Cause::Sizes,
-            place: 0,
-        });
+        return Err(Cause::Sizes.at(0));
     }
     let hour_line = hour_len(day.hour, figures);
     if !has_room(out.len(), holdings, amounts, hour_line) {
-        return Err(Refusal {
-            cause: Cause::TooShort,
-            place: 0,
-        });
+        return Err(Cause::TooShort.at(0));
     }
     let mut text = Output {
         buffer: out,

@@ -44,6 +44,7 @@ fn put_package(tables: &HourTables, out: &mut Output, long: usize)
     put_entries(tables.holdings, out);
 }
 
+// the caller's tables lie each by itself, so each is a parameter here
 /// Writes the package of an hour into the caller's buffer and answers its length, or refuses by the first test that fails,
 /// and the buffer then stays.
 pub fn write_package(
@@ -66,23 +67,14 @@ pub fn write_package(
         holdings,
     };
     if !tables.sizes_ok() {
-        return Err(Refusal {
-            cause: Cause::Sizes,
-            place: 0,
-        });
+        return Err(Cause::Sizes.at(0));
     }
     if let Some(place) = tables.bad_entry() {
-        return Err(Refusal {
-            cause: Cause::BadEntry,
-            place,
-        });
+        return Err(Cause::BadEntry.at(place));
     }
     let long = tables.package_length();
     if out.len() < long {
-        return Err(Refusal {
-            cause: Cause::TooShort,
-            place: 0,
-        });
+        return Err(Cause::TooShort.at(0));
     }
     let mut package = Output {
         buffer: out,

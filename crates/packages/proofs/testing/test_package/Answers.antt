@@ -18,7 +18,7 @@ unfolding reads
 returns-then-bytes-gt-LARGEST c =
     let a : leb 5 (length c.args.bytes.now) ≡ true = le-leb _ _ (omega arith) in
     let b : leb (length c.args.bytes.now) 44340 ≡ false = lt-leb _ _ (omega arith) in
-    rw (a, b)
+    rw (a, b, c.at-untrue.ensures.cause, c.at-untrue.ensures.place)
 
 short : (bs : List ℕ) → length bs < 5 → reads_tables bs ≡ Err (refused_at 1 0)
 unfolding reads
@@ -42,7 +42,7 @@ returns-then-from_be_bytes-bytes c =
     let a : leb 5 (length c.args.bytes.now) ≡ true = le-leb _ _ (search rules) in
     let b : leb (length c.args.bytes.now) 44340 ≡ true = le-leb _ _ (search rules) in
     let e : eqb (num4_at c.args.bytes.now 0) (length c.args.bytes.now - 4) ≡ false = ne_eqb _ _ (search rules) in
-    rw (a, b, e)
+    rw (a, b, e, c.at-untrue.ensures.cause, c.at-untrue.ensures.place)
 
 pub returns-then-version-ne1 : goal.returns-then-version-ne1
 unfolding reads
@@ -51,7 +51,7 @@ returns-then-version-ne1 c =
     let b : leb (length c.args.bytes.now) 44340 ≡ true = le-leb _ _ (search rules) in
     let e : eqb (num4_at c.args.bytes.now 0) (length c.args.bytes.now - 4) ≡ true = eq-eqb _ _ (search rules) in
     let v : eqb (get_or c.args.bytes.now 4 0) 1 ≡ false = ne_eqb _ _ (search rules) in
-    rw (a, b, e, v)
+    rw (a, b, e, v, c.at.ensures.cause, c.at.ensures.place)
 
 pub returns : goal.returns
 returns c =

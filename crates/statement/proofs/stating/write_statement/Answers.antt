@@ -38,7 +38,7 @@ pub returns-then-not-has_room : goal.returns-then-not-has_room
 returns-then-not-has_room c =
     let s : sizes_ok (length c.args.holdings.now) (length c.args.amounts.now) ≡ true = sym c.if-not-sizes_ok.ensures in
     let e = short c.args.day.now.hour c.args.holdings.now c.args.amounts.now c.args.figures.now (length c.args.out.now) s (omega (arith, c.hour_len-hour_line.ensures.value, c.if-not-has_room.ensures.short refl)) in
-    record { answer = ap length_of (sym e); buffer = ap (λ r. written r c.args.out.now) (sym e) }
+    record { answer = rw (c.at-then-not-has_room.ensures.cause, c.at-then-not-has_room.ensures.place) (ap length_of (sym e)); buffer = ap (λ r. written r c.args.out.now) (sym e) }
 
 pub returns : goal.returns
 returns c =

@@ -24,7 +24,7 @@ returns-then-out-long c =
     let l = tables_long (given c.args.day.now c.args.constraints.now c.args.points.now c.args.factors.now c.args.holdings.now) (sizes_inv (given c.args.day.now c.args.constraints.now c.args.points.now c.args.factors.now c.args.holdings.now) s).3 in
     let w = writes_short (given c.args.day.now c.args.constraints.now c.args.points.now c.args.factors.now c.args.holdings.now) (length c.args.out.now) s b (omega arith) in
     record {
-      answer = ap (answered length) (sym w);
+      answer = rw (c.at-then-out-long.ensures.cause, c.at-then-out-long.ensures.place) (ap (answered length) (sym w));
       buffer = ap (λ r. written r c.args.out.now) (sym w);
       reads_back = tt;
     }
