@@ -1,5 +1,6 @@
 -- Shift factors, two bytes at a time.
-use Rattle.std.proofs.Common.{◌≡◌, ℕ, suc, ◌*◌, ◌/◌, ◌%◌, Bool, true, false, ◌&&◌, List, [], ◌∷◌, ◌++◌, length, get_or, map, ℤ, pos, negsuc, refl, ap, ◌∙◌, arith, w16, SFits}
+use Rattle.std.proofs.Common.{◌≡◌, ℕ, suc, ◌*◌, ◌/◌, ◌%◌, Bool, true, false, ◌&&◌, List, [], ◌∷◌, ◌++◌, length, get_or, map, ℤ, pos, negsuc, sym, refl, ap, ◌∙◌, arith, w16, SFits}
+use Rattle.std.specs.List.{fold}
 use Rattle.std.specs.Simd.{first_chunks}
 use Rattle.std.proofs.lemmas.Bool.Decides.{nat_tests}
 use Rattle.rows.specs.Ranges.{factor_ok}
@@ -56,3 +57,13 @@ factors_canon (a ∷ []) e h = absurd (omega arith)
 factors_canon (a ∷ b ∷ bs) e h =
     let i = factors_canon bs (omega arith) (λ k. h (suc (suc k))) in
     ap (λ ys. ys ++ encode_factors (factors_at bs)) (twos2_int2 a b (h 0) (h 1)) ∙ ap (λ ys. a ∷ b ∷ ys) i
+
+folded : {X Y : Type 0} (p : Y → Bool) (f : X → Y) (a : Bool) (xs : List X) → fold (λ all x. all && p (f x)) a xs ≡ (a && every p (map f xs))
+folded p f true [] = refl
+folded p f false [] = refl
+folded p f true (x ∷ xs) = folded p f (p (f x)) xs
+folded p f false (x ∷ xs) = folded p f false xs
+
+-- all tests of the shift factors joined say whether each passes
+pub factors_joined : (b : Bool) (pairs : List (List ℕ)) (fs : List ℤ) → fs ≡ map factor_of pairs → b ≡ fold (λ all pair. all && factor_ok (factor_of pair)) true pairs → b ≡ every factor_ok fs
+factors_joined b pairs fs e h = h ∙ folded factor_ok factor_of true pairs ∙ ap (every factor_ok) (sym e)
