@@ -8,6 +8,9 @@ pub const MOST_CONSTRAINTS: usize = 32;
 /// The most points of an hour.
 pub const MOST_POINTS: usize = 256;
 
+/// The most shift factors of an hour: one for each point and constraint.
+pub const MOST_FACTORS: usize = 8_192;
+
 /// The most holdings of an hour.
 pub const MOST_HOLDINGS: usize = 1_024;
 

@@ -15,15 +15,11 @@ pub(crate) fn bytes_of(heap: Global, text: &str) -> Result<Vec<u8>, AllocError> 
 /// The text in which `\n` stands for each newline.
 pub(crate) fn lines_of(heap: Global, text: &str) -> Result<Vec<u8>, AllocError> {
     let mut bytes = Vec::new(heap);
-    // an escape is two bytes in a row, which no split keeps apart from a lone one
-    let mut escaped = false;
-    for b in text.bytes() {
-        if escaped && b == b'n' {
+    for (i, line) in text.split("\\n").enumerate() {
+        if i > 0 {
             bytes.push(b'\n')?;
-        } else if b != b'\\' {
-            bytes.push(b)?;
         }
-        escaped = b == b'\\';
+        bytes.extend_from_slice(line.as_bytes())?;
     }
     Ok(bytes)
 }

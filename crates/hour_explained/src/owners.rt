@@ -4,6 +4,7 @@ ghost use Rattle.hours.specs.Read.{tables_in};
 ghost use Rattle.hour_explained.specs.Explained.{owners_in, owners_text};
 ghost use Rattle.hour_explained.specs.Sheet.{first_sheet};
 
+use format::MOST_HOLDINGS;
 use hours::HourTables;
 use ledger::{CLEAR_HOUR, CLEAR_ROLL, HourLine};
 use line_text::push_lines;
@@ -29,7 +30,7 @@ fn first_sheet<I: Instrument>(instrument: &I, hour: &HourTables) -> Result<[Hour
 {
     let mut roll = [CLEAR_ROLL; 128];
     let mut sheet = [CLEAR_HOUR; 128];
-    let mut amounts = [0i64; 1024];
+    let mut amounts = [0i64; MOST_HOLDINGS];
     let mut month = open(&mut roll)?;
     let _ = post_hour(
         &mut month,

@@ -1,5 +1,6 @@
 ghost use Rattle.std.specs.Prelude.{◌≤◌};
 
+use format::{MOST_CONSTRAINTS, MOST_FACTORS, MOST_HOLDINGS, MOST_POINTS};
 use packages::Filled;
 use rows::{ConstraintRow, HoldingRow, PointRow};
 
@@ -8,10 +9,10 @@ use rows::{ConstraintRow, HoldingRow, PointRow};
 #[derive(Drop)]
 pub struct HourTables {
     pub(crate) found: Filled,
-    pub(crate) constraints: [ConstraintRow; 32],
-    pub(crate) points: [PointRow; 256],
-    pub(crate) factors: [i16; 8192],
-    pub(crate) holdings: [HoldingRow; 1024],
+    pub(crate) constraints: [ConstraintRow; MOST_CONSTRAINTS],
+    pub(crate) points: [PointRow; MOST_POINTS],
+    pub(crate) factors: [i16; MOST_FACTORS],
+    pub(crate) holdings: [HoldingRow; MOST_HOLDINGS],
     ghost constraint_room: { found.constraints ≤ 32 },
     ghost point_room: { found.points ≤ 256 },
     ghost factor_room: { found.factors ≤ 8192 },

@@ -7,6 +7,7 @@ ghost use Rattle.hours.specs.Read.{tables_in, held_in, no_hour, hour_read};
 
 use crate::blanks::{NO_CONSTRAINT, NO_FACTOR, NO_HOLDING, NO_POINT};
 use crate::hour_tables::HourTables;
+use format::{MOST_CONSTRAINTS, MOST_FACTORS, MOST_HOLDINGS, MOST_POINTS};
 use packages::{Filled, read_package};
 use payoff::PlainTables;
 use refusals::Refusal;
@@ -38,10 +39,10 @@ impl HourTables {
                 factors: 0,
                 holdings: 0,
             },
-            constraints: [NO_CONSTRAINT; 32],
-            points: [NO_POINT; 256],
-            factors: [NO_FACTOR; 8192],
-            holdings: [NO_HOLDING; 1024],
+            constraints: [NO_CONSTRAINT; MOST_CONSTRAINTS],
+            points: [NO_POINT; MOST_POINTS],
+            factors: [NO_FACTOR; MOST_FACTORS],
+            holdings: [NO_HOLDING; MOST_HOLDINGS],
         }
     }
 

@@ -11,7 +11,8 @@ use std::io::{ErrorKind, Read};
 pub fn read_up_to<R: Read>(reader: &mut R, buf: &mut [u8]) -> io::Result<usize>
     ensures { IfOk result (λ n. n ≤ length buf.old) }
 {
-    // the buffer is the caller's, and the library's reading to the end wants one on the heap
+    // the buffer is the caller's, where the library's reading to the end wants one on the heap; and a reader may answer
+    // for ever, so its turns are counted
     let mut filled = 0;
     for _ in 0..u64::MAX {
         if filled == buf.len() {

@@ -4,8 +4,8 @@ ghost use Rattle.ledger.specs.Calls.{loads_test, close_test, after_close, CloseA
 ghost use Rattle.month.specs.Months.{of_refunded, of_closed};
 
 use crate::handed_back::HandedBack;
+use crate::loads::load_total;
 use crate::state::{ClosedMonth, RefundedMonth};
-use crate::tables::load_total;
 use ledger::{LoadLine, RollLine};
 use refusals::{Cause, Refusal};
 use rows::first_bad;
@@ -57,6 +57,7 @@ impl RefundedMonth {
     ) -> Result<ClosedMonth, HandedBack<RefundedMonth>>
         ensures { MatchResult result (λ m. CloseAccepted (of_refunded self) roll.now loads.old (of_closed m) loads.new) (λ back. CloseRefused (of_refunded self) roll.now loads.old (told back.refusal) (of_refunded back.month) loads.new) }
     {
+        // a map_err would take the month before its test is made
         if let Err(refusal) = self.test_close(roll, loads) {
             return Err(HandedBack {
                 month: self,

@@ -13,6 +13,7 @@ mod held_hour;
 mod hour;
 mod hour_dues;
 mod hour_sums;
+mod loads;
 mod opening;
 mod post;
 mod refund;
@@ -20,7 +21,6 @@ mod roll;
 mod sheet;
 mod state;
 mod sums;
-mod tables;
 mod told;
 
 pub use handed_back::HandedBack;

@@ -25,6 +25,7 @@ use rows::{Day, HoldingRow};
 use units::Cents;
 
 /// Writes an hour that was admitted: amounts, hour sheet and roll.
+// the caller lends each of them by itself: how long they are is asked where they are taken
 fn write_hour(hour: &HourDues, roll: &mut [RollLine], sheet: &mut [HourLine], amounts: &mut [i64])
     requires lines { (length roll.old ≡ hour.now.owners) × (length sheet.old ≡ hour.now.owners) }
     requires room { length hour.now.dues.now ≤ length amounts.old }

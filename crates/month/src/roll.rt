@@ -6,7 +6,9 @@ ghost use Rattle.month.specs.Months.{of_books};
 use crate::books::Books;
 use ledger::{RollLine, is_within, positive_cents};
 
-/// The sum of each figure over a roll, before it is known to be the month's.
+/// The sum of each figure over a roll, before it is known to be the month's: in 128 bits, where no sum of so few lines can
+/// be too large, so that nothing has to be tested before.
+// each column is summed alike, but a closure that picks one cannot be named in the clauses
 #[derive(Clone, Copy, PartialEq, Eq)]
 struct RollSums {
     credits: u128,

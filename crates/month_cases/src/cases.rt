@@ -141,17 +141,17 @@ fn refused_refund(rt: &impl Print, m: OpenMonth, roll: &mut [RollLine]) -> Resul
     match m.refund(roll) {
         Ok(_) => Err(anyhow!("a negative figure is refunded")),
         Err(back) => {
-            let e = back.refusal;
-            println!(rt; "refund with a negative figure: {e}")?;
+            println!(rt; "refund with a negative figure: {}", back.refusal)?;
             Ok(back.month)
         }
     }
 }
 
 fn refunds(rt: &impl Print, first: &RollLine, second: &RollLine) -> io::Result<()> {
-    let first = first.refund.value;
-    let second = second.refund.value;
-    println!(rt; "refunds {first} and {second}")
+    println!(rt;
+        "refunds {} and {}",
+        first.refund.value, second.refund.value
+    )
 }
 
 /// Closes the month on loads that are refused: it is handed back.
@@ -164,8 +164,7 @@ fn refused_close(
     match m.close(roll, loads) {
         Ok(_) => Err(anyhow!("loads outside their limits are taken")),
         Err(back) => {
-            let e = back.refusal;
-            println!(rt; "close: {e}")?;
+            println!(rt; "close: {}", back.refusal)?;
             Ok(back.month)
         }
     }
@@ -182,23 +181,24 @@ fn closing(rt: &impl Print, m: RefundedMonth, roll: &[RollLine]) -> Result<()> {
         .close(roll, &mut loads)
         .map_err(|back| unexpected(back.refusal))?;
     figures(rt, &m.figures())?;
-    let first = loads[0].paid.value;
-    let second = loads[1].paid.value;
-    println!(rt; "loads get {first} and {second}")?;
+    println!(rt;
+        "loads get {} and {}",
+        loads[0].paid.value, loads[1].paid.value
+    )?;
     Ok(())
 }
 
 /// Prints the figures of a closed month.
 fn figures(rt: &impl Print, told: &ClosedFigures) -> io::Result<()> {
-    let hours = told.hours;
-    let rents = told.rents;
-    let credits = told.credits;
-    let charges = told.charges;
-    let short = told.shortfall_charges;
-    let refunds = told.refunds;
-    let payments = told.load_payments;
     println!(rt;
-        "closed: hours {hours} rents {rents} credits {credits} charges {charges} short {short} refunds {refunds} payments {payments}"
+        "closed: hours {} rents {} credits {} charges {} short {} refunds {} payments {}",
+        told.hours,
+        told.rents,
+        told.credits,
+        told.charges,
+        told.shortfall_charges,
+        told.refunds,
+        told.load_payments
     )
 }
 

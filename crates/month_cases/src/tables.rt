@@ -65,16 +65,10 @@ pub(crate) fn report(
     answer: Result<HourAnswer, Refusal>,
 ) -> io::Result<()> {
     match answer {
-        Ok(a) => {
-            let rent = a.rent.value;
-            let credits = a.credits.value;
-            let charges = a.charges.value;
-            let short = a.short.value;
-            let balance = a.balance.value;
-            println!(rt;
-                "{name}: rent {rent} credits {credits} charges {charges} short {short} balance {balance}"
-            )
-        }
+        Ok(a) => println!(rt;
+            "{name}: rent {} credits {} charges {} short {} balance {}",
+            a.rent.value, a.credits.value, a.charges.value, a.short.value, a.balance.value
+        ),
         Err(e) => println!(rt; "{name}: {e}"),
     }
 }

@@ -4,6 +4,7 @@ ghost use Rattle.month.specs.Months.{of_open};
 ghost use Rattle.month_settlement.specs.Running.{Booking};
 
 use crate::outcomes::BookedHour;
+use format::MOST_HOLDINGS;
 use hours::HourTables;
 use ledger::{CLEAR_HOUR, RollLine};
 use month::OpenMonth;
@@ -24,7 +25,7 @@ pub(crate) fn book_hour<I: Instrument>(
     tables.read(bytes)?;
     let owners = roll.len().min(128);
     let mut sheet = [CLEAR_HOUR; 128];
-    let mut amounts = [0i64; 1024];
+    let mut amounts = [0i64; MOST_HOLDINGS];
     let answer = post_hour(
         month,
         roll,

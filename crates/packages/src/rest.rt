@@ -78,7 +78,7 @@ pub(crate) fn test_rest<'a>(mut reader: Reader<'a>) -> Result<Counts, Refusal>
         holdings: 0,
     };
     loop {
-        // the number of a record is told before it is taken
+        // the number of a record is told before it is taken, and what comes next may be refused: so no iterator
         let place = reader.place();
         let Some(entry) = reader.next()? else {
             return Ok(seen);

@@ -18,6 +18,7 @@ pub struct Choice<A, B> {
     pub second_letters: LetterSet,
 }
 
+// figures and payment differ in the call that they make, which no parameter can stand for: each is a method of a type
 impl<L: Instrument, R: Instrument> Instrument for Choice<L, R> {
     ghost means = { λ i t h. choice (L.Instrument.means i.first) i.first_letters (R.Instrument.means i.second) i.second_letters t h };
 

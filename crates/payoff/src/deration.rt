@@ -16,9 +16,8 @@ fn factor_gap(source: i16, sink: i16) -> u32
     requires sink { factor_ok sink ≡ true }
     ensures { result ≡ positive (source -ℤ sink) }
 {
-    // 16 bits hold the difference of two factors, so that the gaps of several constraints are worked out at once
-    let gap = source - sink;
-    if gap > 0 { gap as u32 } else { 0 }
+    // 16 bits hold the difference of two factors
+    (source - sink).max(0) as u32
 }
 
 /// What a constraint adds to the deration: how far the source's factor is above the sink's, times shadow price, times

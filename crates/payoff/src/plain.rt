@@ -30,6 +30,7 @@ fn target_price(rule: TargetRule, spread: Price) -> Price
 }
 
 /// The figures of a plain instrument at its target price.
+// hour, holding and pair come each from its own caller, and go together in these two functions alone
 fn figures_at(hour: &TestedTables, holding: &Holding, pair: &Pair, target: Price) -> Figures
     requires { Some (plain_pair pair.now) ≡ pair_of (tables_of hour.now) (plain_holding holding.now) }
     ensures { payoff_of result ≡ figures_at (tables_of hour.now) (plain_holding holding.now) target.value }

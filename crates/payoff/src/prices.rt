@@ -48,10 +48,10 @@ impl Pair {
     fn has_resource_node(&self) -> bool
         ensures { result ≡ (is_kind ResourceNode (plain_pair self.now).source || is_kind ResourceNode (plain_pair self.now).sink) }
     {
-        match (self.source.kind, self.sink.kind) {
-            (PointKind::ResourceNode, _) | (_, PointKind::ResourceNode) => true,
-            _ => false,
-        }
+        matches!(
+            (self.source.kind, self.sink.kind),
+            (PointKind::ResourceNode, _) | (_, PointKind::ResourceNode)
+        )
     }
 
     /// The floor price at a target price.
@@ -68,9 +68,12 @@ impl Pair {
     pub fn refundable(&self) -> bool
         ensures { result ≡ refundable (plain_pair self.now) }
     {
-        match (self.source.kind, self.sink.kind) {
-            (PointKind::ResourceNode, PointKind::LoadZone | PointKind::Hub) => true,
-            _ => false,
-        }
+        matches!(
+            (self.source.kind, self.sink.kind),
+            (
+                PointKind::ResourceNode,
+                PointKind::LoadZone | PointKind::Hub
+            )
+        )
     }
 }

@@ -9,6 +9,7 @@ use crate::tested::TestedTables;
 use refusals::{Cause, Refusal};
 use rows::first_bad;
 
+// the writer tests its tables so too, holdings besides, and does not stand on this crate
 /// The first entry out of range: constraints first, then points and shift factors.
 fn bad_entry(tables: &PlainTables) -> Option<usize>
     ensures { result ≡ bad_entry (plain_tables tables.now) }

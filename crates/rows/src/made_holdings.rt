@@ -17,17 +17,22 @@ fn quantity_ok(value: u32) -> bool
     (1..=100_000).contains(&value)
 }
 
-impl HeldQuantity {
-    /// A quantity made directly, or refusal 6 at place 0.
-    pub fn new(value: u32) -> Result<HeldQuantity, Refusal>
-        ensures { told_by (λ q. q.value) result ≡ (if quantity_ok value then Ok value else Err (refused_at 6 0)) }
-    {
-        if !quantity_ok(value) {
-            return Err(Cause::OutOfRange.at(0));
-        }
-        Ok(HeldQuantity { value })
-    }
+impl FromRow for HeldQuantity {
+    type Row = u32;
 
+    ghost plain = { λ q. q.value };
+
+    ghost ok = { quantity_ok };
+
+    fn typed(row: &u32) -> Option<HeldQuantity> {
+        if !quantity_ok(*row) {
+            return None;
+        }
+        Some(HeldQuantity { value: *row })
+    }
+}
+
+impl HeldQuantity {
     /// The same quantity, as a price is multiplied by it.
     pub fn quantity(self) -> Quantity
         ensures { result.value ≡ self.value }

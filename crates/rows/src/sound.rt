@@ -17,6 +17,7 @@ pub trait Sound {
         ensures { result ≡ ok self.now };
 }
 
+// each kind of row is sound as its typed row is made, which one line says
 impl Sound for ConstraintRow {
     ghost ok = { constraint_ok };
 

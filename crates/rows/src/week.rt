@@ -10,7 +10,7 @@ const E: Block = Block::PeakWeekend;
 
 const N: Block = Block::OffPeak;
 
-/// The block of each hour of the week, a line for each day from Monday on.
+/// The block of each hour of the week, 24 for each day from Monday on.
 const BLOCKS: [Block; 168] = [
     N, N, N, N, N, N, W, W, W, W, W, W, W, W, W, W, W, W, W, W, W, W, N, N, N, N, N, N, N, N, W, W,
     W, W, W, W, W, W, W, W, W, W, W, W, W, W, N, N, N, N, N, N, N, N, W, W, W, W, W, W, W, W, W, W,

@@ -8,12 +8,9 @@ pub(crate) fn tell(rt: &HostRuntime, room: Room, bytes: &[u8]) -> anyhow::Result
     match tables.read(bytes) {
         Ok(found) => {
             let same = tables.written_alike(heap, &found, bytes)?;
-            let c = found.constraints;
-            let p = found.points;
-            let f = found.factors;
-            let h = found.holdings;
             println!(rt;
-                "{c} constraints, {p} points, {f} shift factors, {h} holdings; written back: {same}"
+                "{} constraints, {} points, {} shift factors, {} holdings; written back: {same}",
+                found.constraints, found.points, found.factors, found.holdings
             )?;
         }
         Err(e) => println!(rt; "{e}")?,

@@ -5,6 +5,7 @@ ghost use Rattle.rows.specs.Plain.{plain_day};
 ghost use Rattle.format.specs.Hours.{tables};
 ghost use Rattle.settlement.specs.Settled.{figures_told, statement_in, settled, within};
 
+use format::{MOST_CONSTRAINTS, MOST_FACTORS, MOST_HOLDINGS, MOST_POINTS};
 use hours::{NO_CONSTRAINT, NO_FACTOR, NO_HOLDING, NO_POINT};
 use ledger::{CLEAR_HOUR, CLEAR_ROLL, HourAnswer};
 use month::open;
@@ -42,7 +43,7 @@ fn settle_hour<I: Instrument>(
     let mut roll = [CLEAR_ROLL; 128];
     let mut month = open(&mut roll)?;
     let mut sheet = [CLEAR_HOUR; 128];
-    let mut amounts = [0i64; 1024];
+    let mut amounts = [0i64; MOST_HOLDINGS];
     let answer = month.post(
         &mut roll,
         day,
@@ -67,10 +68,10 @@ pub fn settle_package<I: Instrument>(
     ensures answer { told_by (λ n. n) result ≡ length_of (within (length out.old) (settled (I.means instrument.now) bytes.now)) }
     ensures buffer { out.new ≡ written (within (length out.old) (settled (I.means instrument.now) bytes.now)) out.old }
 {
-    let mut constraints = [NO_CONSTRAINT; 32];
-    let mut points = [NO_POINT; 256];
-    let mut factors = [NO_FACTOR; 8192];
-    let mut holdings = [NO_HOLDING; 1024];
+    let mut constraints = [NO_CONSTRAINT; MOST_CONSTRAINTS];
+    let mut points = [NO_POINT; MOST_POINTS];
+    let mut factors = [NO_FACTOR; MOST_FACTORS];
+    let mut holdings = [NO_HOLDING; MOST_HOLDINGS];
     let hour = read_package(
         bytes,
         &mut constraints,

@@ -15,6 +15,7 @@ use rows::{Day, HoldingRow};
 const LONGEST_LINE: usize = 53;
 
 /// Whether there are no more holdings than an hour has, and an amount for each.
+// the caller lends holdings and amounts each by itself: what holds of both is asked where both are taken
 fn sizes_ok(holdings: usize, amounts: usize) -> bool
     ensures { result ≡ sizes_ok holdings amounts }
 {

@@ -5,6 +5,7 @@ use buffer::Output;
 
 /// Writes a word, for which there is room. The room is known for a whole line, so it is not tested for each of its words,
 /// as `Output::put` would.
+// `append` of `buffer` is this, but asks for room, so it is not public there
 pub(crate) fn put_word(out: &mut Output, word: &[u8])
     requires { HasRoom out.old (length word.now) }
     ensures { Appends out.old word.now out.new }
