@@ -1,5 +1,5 @@
 -- The prices between the two ends of a holding.
-use Rattle.std.specs.Prelude.{ℕ, zero, suc, ◌+◌, ◌*◌, Bool, cond, ◌&&◌, ◌||◌, List, length, take, drop, get_or, ℤ, pos, ◌-ℤ◌, ◌==◌, int_lt, slice_index_or}
+use Rattle.std.specs.Prelude.{ℕ, zero, suc, ◌+◌, ◌*◌, Bool, cond, ◌&&◌, ◌||◌, length, get_or, ℤ, pos, ◌-ℤ◌, ◌==◌, int_lt, slice_index_or}
 use Rattle.std.specs.Int.{int_max, int_min}
 use Rattle.units.specs.Parts.{positive}
 use Rattle.units.specs.Rounding.{round_deration}
@@ -45,10 +45,6 @@ sum_to f (suc n) = sum_to f n + f n
 -- the shift factor of a point on a constraint
 abbrev pub shift_factor : Tables → ℕ → ℕ → ℤ
 shift_factor t point c = slice_index_or t.factors (point * length t.constraints + c) (pos 0)
-
--- the shift factors of a point, one for each constraint
-abbrev pub factors_of : Tables → ℕ → List ℤ
-factors_of t point = take (length t.constraints) (drop (point * length t.constraints) t.factors)
 
 -- what a constraint adds to the deration: how far the source's factor is above the sink's, times shadow price, times
 -- deration factor, in hundred-millionths of a cent per MWh

@@ -1,9 +1,9 @@
-ghost use Rattle.std.specs.Prelude.{◌≡◌, ◌*◌, ◌<◌, ◌≤◌, true, length, ◌-ℤ◌};
+ghost use Rattle.std.specs.Prelude.{◌≡◌, ◌*◌, ◌≤◌, true, ◌-ℤ◌};
 ghost use Rattle.units.specs.Parts.{positive};
 ghost use Rattle.rows.specs.Ranges.{constraint_ok, factor_ok};
 ghost use Rattle.rows.specs.Plain.{plain_holding};
 ghost use Rattle.payoff.specs.Tables.{pair_ok};
-ghost use Rattle.payoff.specs.Prices.{factors_of, deration_price_of};
+ghost use Rattle.payoff.specs.Prices.{deration_price_of};
 ghost use Rattle.payoff.specs.View.{tables_of};
 
 use crate::tested::TestedTables;
@@ -16,7 +16,7 @@ fn factor_gap(source: i16, sink: i16) -> u32
     requires sink { factor_ok sink ≡ true }
     ensures { result ≡ positive (source -ℤ sink) }
 {
-    // 16 bits hold the difference of two factors
+    // 16 bits hold the difference of two factors, so that the gaps of several constraints are worked out at once
     (source - sink).max(0) as u32
 }
 
@@ -32,29 +32,22 @@ fn deration_term(row: &ConstraintRow, source: i16, sink: i16) -> u64
     factor_gap(source, sink) as u64 * row.shadow as u64 * row.deration as u64
 }
 
-impl<'a> TestedTables<'a> {
-    /// The shift factors of a point, one for each constraint.
-    fn factors_of(&self, point: u16) -> &'a [i16]
-        requires { point < length (tables_of self.now).points }
-        ensures { result.now ≡ factors_of (tables_of self.now) point }
-    {
-        let columns = self.plain.constraints.len();
-        let first = point as usize * columns;
-        &self.plain.factors[first..first + columns]
-    }
-}
-
 /// The deration price of a holding: summed over every constraint of the hour, and rounded once.
 pub(crate) fn deration_price(hour: &TestedTables, holding: &Holding) -> Price
     requires { pair_ok (tables_of hour.now) (plain_holding holding.now) ≡ true }
     ensures { result.value ≡ deration_price_of (tables_of hour.now) (plain_holding holding.now) }
 {
-    let sources = hour.factors_of(holding.source);
-    let sinks = hour.factors_of(holding.sink);
-    // a chain's closure would not know that what it is given has passed its tests, so the sum is a loop's
+    let n = hour.plain.constraints.len();
+    let source = holding.source as usize * n;
+    let sink = holding.sink as usize * n;
+    // a constraint's number is its place in both rows of shift factors; a walk of all three at once was tried, and is slower
     let mut sum: u64 = 0;
-    for (row, (source, sink)) in hour.plain.constraints.iter().zip(sources.iter().zip(sinks)) {
-        sum += deration_term(row, *source, *sink);
+    for (c, row) in hour.plain.constraints.iter().enumerate() {
+        sum += deration_term(
+            row,
+            hour.plain.factors[source + c],
+            hour.plain.factors[sink + c],
+        );
     }
     Price {
         value: deration_cents(sum) as i32,

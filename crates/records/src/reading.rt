@@ -11,10 +11,15 @@ fn split<'a>(bytes: &'a [u8]) -> Option<(Entry<'a>, &'a [u8])>
     requires { 0 < length bytes.now }
     ensures { elim result [ None ↦ frame_of bytes.now ≡ Bad | Some x ↦ (frame_of bytes.now ≡ One x.0.letter x.0.fields.now x.1.now) × (length x.1.now + length x.0.fields.now + 3 ≡ length bytes.now) ] }
 {
-    let (head, rest) = bytes.split_first_chunk()?;
-    let len = u16::from_be_bytes(*head) as usize;
+    // slice patterns take the two length bytes, the letter and the fields apart, and name them
+    let [high, low, rest @ ..] = bytes else {
+        return None;
+    };
+    let len = u16::from_be_bytes([*high, *low]) as usize;
     let (body, after) = rest.split_at_checked(len)?;
-    let (letter, fields) = body.split_first()?;
+    let [letter, fields @ ..] = body else {
+        return None;
+    };
     let entry = Entry {
         letter: *letter,
         fields,

@@ -1,71 +1,108 @@
-use Rattle.std.proofs.Common.{◌≡◌, [], ◌∷◌, inl, inr, ◌≤◌, true, length, pos, refl, ap, ◌∙◌, arith, w16, w32, to_z, of_z}
+use Rattle.std.proofs.Common.{◌≡◌, ◌+◌, ◌*◌, ◌<◌, ◌≤◌, true, length, pos, ap, ◌∙◌, arith, w16, w32, to_z, of_z}
 use borrow.Author.Differences.{ints}
-use Rattle.std.proofs.lemmas.List.{length-append}
 use Rattle.units.specs.Rounding.{round_deration}
+use Rattle.rows.specs.declared.holding.Holding.{Holding}
 use Rattle.rows.specs.Plain.{plain_holding}
 use Rattle.rows.specs.Ranges.{factor_ok}
 use Rattle.rows.proofs.Ranges.{factor_range}
+use Rattle.payoff.specs.declared.tested.TestedTables.{TestedTables}
+use Rattle.payoff.specs.Tables.{pair_ok}
+use Rattle.payoff.specs.Prices.{shift_factor, deration_term, sum_to}
 use Rattle.payoff.specs.View.{tables_of}
-use Rattle.payoff.specs.Passed.{passed}
-use Rattle.payoff.specs.Terms.{round_le}
+use Rattle.payoff.specs.Passed.{Passed, passed, row_fits, factors_le}
+use Rattle.payoff.specs.Terms.{factor_place, sum_to_more, round_le}
 use Rattle.payoff.specs.Laws.{placed}
-use Rattle.payoff.proofs.Walks.{Turn, turn, walked_as, rows_end, sources_end, sinks_end, taken}
 use Rattle.payoff.proofs.deration.deration_price.Goals as goal
 use Rattle.payoff.proofs.deration.deration_price.Goals.{After-deration_term-sum, After-deration_cents}
+
+-- the rows of the two points in the table of shift factors
+record Rows (v : TestedTables) (h : Holding) : Type 0 where
+  tested : Passed (tables_of v)
+  source : h.source < length (tables_of v).points
+  sink : h.sink < length (tables_of v).points
+  source_row : h.source * length (tables_of v).constraints + length (tables_of v).constraints ≤ length (tables_of v).factors
+  sink_row : h.sink * length (tables_of v).constraints + length (tables_of v).constraints ≤ length (tables_of v).factors
+  few : length (tables_of v).factors ≤ 8192
+
+rows : (v : TestedTables) (h : Holding) → pair_ok (tables_of v) (plain_holding h) ≡ true → Rows v h
+rows v h e =
+    let w = passed (tables_of v) v.passed in
+    let p = placed (tables_of v) (plain_holding h) e in
+    record {
+      tested = w;
+      source = p.source;
+      sink = p.sink;
+      source_row = row_fits (tables_of v) w h.source p.source;
+      sink_row = row_fits (tables_of v) w h.sink p.sink;
+      few = factors_le (tables_of v) w;
+    }
+
+-- the shift factor of a point on a constraint passes its test
+factor_ok_lem : (v : TestedTables) → Passed (tables_of v) → (i c : _) → i < length (tables_of v).points → c < length (tables_of v).constraints → factor_ok (shift_factor (tables_of v) i c) ≡ true
+factor_ok_lem v w i c a b = w.factor _ (factor_place (tables_of v) w i c a b)
 
 -- a number read from the table of shift factors
 read : (z : _) → factor_ok z ≡ true → to_z w16 (of_z w16 z) ≡ z
 read z e = let r = factor_range z e in omega (arith, ints)
 
--- what a turn takes
-turn_of : (c : After-deration_term-sum) → Turn (tables_of c.args.hour.now) c.args.holding.now.source c.args.holding.now.sink (length c.loop-row.yielded) c.loop-row.sum c.in-Some.row.now c.in-Some.source.now c.in-Some.sink.now c.next.new.self.a.rest.now c.next.new.self.b.a.rest.now c.next.new.self.b.b.rest.now
-turn_of c =
-    let t = tables_of c.args.hour.now in
-    let h = c.args.holding.now in
-    let p = placed t (plain_holding h) c.requires in
-    let s = c.in-Some.ensures.steps in
-    let w = walked_as t h.source h.sink _ _ _ _ _ _ _ _ _ c.loop-row.invariant refl s.0 s.1.0 s.1.1 in
-    turn t h.source h.sink (passed t c.args.hour.now.passed) p.source p.sink _ _ _ _ _ _ _ _ w
+pub overflow_mul-source : goal.overflow_mul-source
+overflow_mul-source c = let r = rows c.args.hour.now c.args.holding.now c.requires in omega arith
+
+pub overflow_mul-sink : goal.overflow_mul-sink
+overflow_mul-sink c = let r = rows c.args.hour.now c.args.holding.now c.requires in omega arith
+
+pub overflow_add-source : goal.overflow_add-source
+overflow_add-source c = let r = rows c.args.hour.now c.args.holding.now c.requires in omega arith
+
+pub offset_bounds-hour-source : goal.offset_bounds-hour-source
+offset_bounds-hour-source c = let r = rows c.args.hour.now c.args.holding.now c.requires in omega arith
+
+pub bounds-hour-source : goal.bounds-hour-source
+bounds-hour-source c = let r = rows c.args.hour.now c.args.holding.now c.requires in omega arith
+
+pub overflow_add-sink : goal.overflow_add-sink
+overflow_add-sink c = let r = rows c.args.hour.now c.args.holding.now c.requires in omega arith
+
+pub offset_bounds-hour-sink : goal.offset_bounds-hour-sink
+offset_bounds-hour-sink c = let r = rows c.args.hour.now c.args.holding.now c.requires in omega arith
+
+pub bounds-hour-sink : goal.bounds-hour-sink
+bounds-hour-sink c = let r = rows c.args.hour.now c.args.holding.now c.requires in omega arith
 
 pub deration_term-sum-requires : goal.deration_term-sum-requires
 deration_term-sum-requires c =
-    let t = tables_of c.args.hour.now in
-    let h = c.args.holding.now in
-    let p = placed t (plain_holding h) c.requires in
-    let s = c.in-Some.ensures.steps in
-    let w = walked_as t h.source h.sink _ _ _ _ _ _ _ _ _ c.loop-row.invariant refl s.0 s.1.0 s.1.1 in
-    let u = turn t h.source h.sink (passed t c.args.hour.now.passed) p.source p.sink _ _ _ _ _ _ _ _ w in
-    record { row = u.row_ok; source = rw (read _ u.source_ok) u.source_ok; sink = rw (read _ u.sink_ok) u.sink_ok }
+    let v = c.args.hour.now in
+    let r = rows v c.args.holding.now c.requires in
+    let a = factor_ok_lem v r.tested c.args.holding.now.source c.loop-c.c r.source c.loop-c-test.true in
+    let b = factor_ok_lem v r.tested c.args.holding.now.sink c.loop-c.c r.sink c.loop-c-test.true in
+    record {
+      row = r.tested.constraint c.loop-c.c c.loop-c-test.true;
+      source = rw (read _ a) a;
+      sink = rw (read _ b) b;
+    }
+
+-- what a turn adds is the constraint's term
+added : (c : After-deration_term-sum) → c.deration_term-sum.result ≡ deration_term (tables_of c.args.hour.now) c.args.holding.now.source c.args.holding.now.sink c.loop-c.c
+added c =
+    let v = c.args.hour.now in
+    let r = rows v c.args.holding.now c.requires in
+    let a = factor_ok_lem v r.tested c.args.holding.now.source c.loop-c.c r.source c.loop-c-test.true in
+    let b = factor_ok_lem v r.tested c.args.holding.now.sink c.loop-c.c r.sink c.loop-c-test.true in
+    rw (read _ a, read _ b) at c.deration_term-sum.ensures.value
 
 pub overflow_add-sum : goal.overflow_add-sum
-overflow_add-sum c = let w = passed (tables_of c.args.hour.now) c.args.hour.now.passed in omega (arith, w.constraints, c.loop-row.invariant.most, c.loop-row.invariant.few)
+overflow_add-sum c = let r = rows c.args.hour.now c.args.holding.now c.requires in omega (arith, r.tested.constraints)
 
-pub loop-row-preserved : goal.loop-row-preserved
-loop-row-preserved c =
-    let u = turn_of c in
-    let e = rw (read _ u.source_ok, read _ u.sink_ok) at c.deration_term-sum.ensures.value in
-    walked_as _ _ _ _ _ _ _ _ _ _ _ _ (u.walked _ e) (omega (arith, length-append c.loop-row.yielded ((c.in-Some.row, (c.in-Some.source, c.in-Some.sink)) ∷ []))) refl refl refl
-
--- every constraint was taken
-whole : (c : After-deration_cents) → length (tables_of c.args.hour.now).constraints ≤ length c.loop-row.yielded
-whole c =
-    let t = tables_of c.args.hour.now in
-    let h = c.args.holding.now in
-    let p = placed t (plain_holding h) c.requires in
-    let w = passed t c.args.hour.now.passed in
-    elim c.in-None.ensures.steps [
-      | inl x ↦ rows_end t h.source h.sink _ _ _ _ _ c.loop-row.invariant x.1.0
-      | inr y ↦ elim y.1 [
-        | inl x ↦ sources_end t h.source h.sink w p.source _ _ _ _ _ c.loop-row.invariant x.1.0
-        | inr x ↦ sinks_end t h.source h.sink w p.sink _ _ _ _ _ c.loop-row.invariant x.1.0
-      ]
-    ]
+pub loop-c-preserved : goal.loop-c-preserved
+loop-c-preserved c =
+    let m = sum_to_more (deration_term (tables_of c.args.hour.now) c.args.holding.now.source c.args.holding.now.sink) c.loop-c.c in
+    (omega (arith, added c), omega arith)
 
 small : (c : After-deration_cents) → c.deration_cents.result ≤ 64000000
 small c =
-    let w = passed (tables_of c.args.hour.now) c.args.hour.now.passed in
-    let s : c.loop-row.sum ≤ 6400000000000000 = omega (arith, w.constraints, c.loop-row.invariant.most, c.loop-row.invariant.few) in
-    omega (arith, c.deration_cents.ensures, round_le c.loop-row.sum s)
+    let r = rows c.args.hour.now c.args.holding.now c.requires in
+    let s : c.loop-c.sum ≤ 6400000000000000 = omega (arith, r.tested.constraints) in
+    omega (arith, round_le c.loop-c.sum s)
 
 pub overflow_cast-result : goal.overflow_cast-result
 overflow_cast-result c = omega (arith, ints, small c)
@@ -75,7 +112,8 @@ invariant_of-result c = record { low = omega (arith, ints, small c); high = omeg
 
 pub returns : goal.returns
 returns c =
-    let d = (goal.at.returns c).After-deration_cents in
-    let s = small d in
+    let s = small (goal.at.returns c).After-deration_cents in
+    let n : c.loop-c.c ≡ length (tables_of c.args.hour.now).constraints = omega arith in
     let e : to_z w32 c.deration_cents.result ≡ pos c.deration_cents.result = omega (arith, ints) in
-    e ∙ ap (λ k. pos k) (c.deration_cents.ensures ∙ ap round_deration (taken (tables_of c.args.hour.now) c.args.holding.now.source c.args.holding.now.sink _ _ _ _ _ c.loop-row.invariant (whole d)))
+    let f = sum_to (deration_term (tables_of c.args.hour.now) c.args.holding.now.source c.args.holding.now.sink) in
+    e ∙ ap (λ k. pos k) (c.deration_cents.ensures ∙ ap round_deration (c.loop-c.invariant.0 ∙ ap f n))
