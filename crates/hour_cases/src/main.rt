@@ -5,6 +5,8 @@
 
 mod cases;
 mod spelling;
+#[cfg(test)]
+mod spelling_tests;
 
 use cases::Tally;
 use hour_explained::explain_package;

@@ -1,9 +1,18 @@
 use std::alloc::{AllocError, Global};
 
+/// The value of a hexadecimal digit in lower case.
+fn digit_of(digit: u8) -> Option<u8> {
+    match digit {
+        // a capital is a digit to the library, and none here
+        b'A'..=b'F' => None,
+        _ => Some((digit as char).to_digit(16)? as u8),
+    }
+}
+
 /// The byte of two hexadecimal digits.
 fn byte_of(pair: &[u8; 2]) -> Option<u8> {
-    let [high, low] = pair.map(|digit| (digit as char).to_digit(16));
-    Some((high? as u8) << 4 | low? as u8)
+    let [high, low] = pair.map(digit_of);
+    Some(high? << 4 | low?)
 }
 
 /// The bytes that pairs of hexadecimal digits spell; they end where a pair does not.
@@ -12,14 +21,18 @@ pub(crate) fn bytes_of(heap: Global, text: &str) -> Result<Vec<u8>, AllocError> 
     pairs.iter().map_while(byte_of).collect(heap)
 }
 
-/// The text in which `\n` stands for each newline.
+/// The text in which `\n` stands for each newline. A backslash that no `n` follows is left out.
 pub(crate) fn lines_of(heap: Global, text: &str) -> Result<Vec<u8>, AllocError> {
     let mut bytes = Vec::new(heap);
-    for (i, line) in text.split("\\n").enumerate() {
-        if i > 0 {
-            bytes.push(b'\n')?;
-        }
-        bytes.extend_from_slice(line.as_bytes())?;
+    for (i, piece) in text.split('\\').enumerate() {
+        let rest = match piece.strip_prefix('n') {
+            Some(rest) if i > 0 => {
+                bytes.push(b'\n')?;
+                rest
+            }
+            _ => piece,
+        };
+        bytes.extend_from_slice(rest.as_bytes())?;
     }
     Ok(bytes)
 }

@@ -1,7 +1,6 @@
 //! Sizes, holdings in turn, a whole month with refused calls between, and the largest hour.
 use crate::posts::{Room, first_hour, hour, new_month, unexpected};
 use crate::tables::*;
-use anyhow::{Result, anyhow};
 use ledger::{CLEAR_ROLL, HourAnswer, LoadLine, RollLine};
 use month::{ClosedFigures, OpenMonth, RefundedMonth, open};
 use payoff::{Obligation, Refund};
@@ -108,7 +107,7 @@ fn settled_hour() -> [HoldingRow; 3] {
 }
 
 /// A month of two hours with refused calls between, and its refund.
-pub(crate) fn whole_month(rt: &impl Print) -> Result<()> {
+pub(crate) fn whole_month(rt: &impl Print) -> io::Result<()> {
     let mut roll = [CLEAR_ROLL; 2];
     let mut m = new_month(&mut roll)?;
     let held = settled_hour();
@@ -137,9 +136,9 @@ pub(crate) fn whole_month(rt: &impl Print) -> Result<()> {
 }
 
 /// Refunds a month whose roll has a negative figure: it is handed back.
-fn refused_refund(rt: &impl Print, m: OpenMonth, roll: &mut [RollLine]) -> Result<OpenMonth> {
+fn refused_refund(rt: &impl Print, m: OpenMonth, roll: &mut [RollLine]) -> io::Result<OpenMonth> {
     match m.refund(roll) {
-        Ok(_) => Err(anyhow!("a negative figure is refunded")),
+        Ok(_) => Err(io::Error::other("a negative figure is refunded")),
         Err(back) => {
             println!(rt; "refund with a negative figure: {}", back.refusal)?;
             Ok(back.month)
@@ -160,9 +159,9 @@ fn refused_close(
     m: RefundedMonth,
     roll: &[RollLine],
     loads: &mut [LoadLine],
-) -> Result<RefundedMonth> {
+) -> io::Result<RefundedMonth> {
     match m.close(roll, loads) {
-        Ok(_) => Err(anyhow!("loads outside their limits are taken")),
+        Ok(_) => Err(io::Error::other("loads outside their limits are taken")),
         Err(back) => {
             println!(rt; "close: {}", back.refusal)?;
             Ok(back.month)
@@ -171,7 +170,7 @@ fn refused_close(
 }
 
 /// Loads that are too many, too large, paid before, and without MWh; then loads of 1 and 3 MWh.
-fn closing(rt: &impl Print, m: RefundedMonth, roll: &[RollLine]) -> Result<()> {
+fn closing(rt: &impl Print, m: RefundedMonth, roll: &[RollLine]) -> io::Result<()> {
     let m = refused_close(rt, m, roll, &mut [load(1, 0); 65])?;
     let m = refused_close(rt, m, roll, &mut [load(1, 0), load(40_000_001, 0)])?;
     let m = refused_close(rt, m, roll, &mut [load(1, 0), load(1, 0), load(1, 5)])?;
@@ -184,8 +183,7 @@ fn closing(rt: &impl Print, m: RefundedMonth, roll: &[RollLine]) -> Result<()> {
     println!(rt;
         "loads get {} and {}",
         loads[0].paid.value, loads[1].paid.value
-    )?;
-    Ok(())
+    )
 }
 
 /// Prints the figures of a closed month.
@@ -215,7 +213,7 @@ const PAIRS: [(u16, u16); 8] = [
 ];
 
 /// 128 owners and 1,024 holdings; the last made the first again; and one holding too many.
-pub(crate) fn largest_hour(rt: &impl Print) -> Result<()> {
+pub(crate) fn largest_hour(rt: &impl Print) -> io::Result<()> {
     let mut roll = [CLEAR_ROLL; 128];
     let mut m = new_month(&mut roll)?;
     let mut held = [obligation(0, 0, 0, 1); 1025];
@@ -240,6 +238,5 @@ pub(crate) fn largest_hour(rt: &impl Print) -> Result<()> {
         rt,
         "the largest hour",
         hour(&mut m, &mut roll, 1, 0, &held[0..1024]),
-    )?;
-    Ok(())
+    )
 }

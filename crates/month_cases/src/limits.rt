@@ -1,11 +1,11 @@
 //! The limits of money: an hour, or a month, that just fits, and one that is a cent over.
 use crate::posts::{hour, new_month};
 use crate::tables::*;
-use anyhow::Result;
 use ledger::CLEAR_ROLL;
+use std::io;
 
 /// Credits and charges of an hour at 3,000,000,000 cents and one over.
-pub(crate) fn hour_money(rt: &impl Print) -> Result<()> {
+pub(crate) fn hour_money(rt: &impl Print) -> io::Result<()> {
     let mut roll = [CLEAR_ROLL; 2];
     let mut m = new_month(&mut roll)?;
     let paid = [obligation(0, 0, 1, 100_000), obligation(1, 0, 2, 1)];
@@ -29,12 +29,11 @@ pub(crate) fn hour_money(rt: &impl Print) -> Result<()> {
         rt,
         "charges at the limit",
         hour(&mut m, &mut roll, 744, 0, &charged[0..1]),
-    )?;
-    Ok(())
+    )
 }
 
 /// A month's balance and its total shortfall at 3,000,000,000 cents and one over.
-pub(crate) fn month_money(rt: &impl Print) -> Result<()> {
+pub(crate) fn month_money(rt: &impl Print) -> io::Result<()> {
     let mut roll = [CLEAR_ROLL; 2];
     let mut m = new_month(&mut roll)?;
     let paid = [obligation(0, 0, 1, 100_000)];
@@ -63,6 +62,5 @@ pub(crate) fn month_money(rt: &impl Print) -> Result<()> {
         rt,
         "the same hour again",
         hour(&mut m, &mut roll, 2, 0, &[]),
-    )?;
-    Ok(())
+    )
 }

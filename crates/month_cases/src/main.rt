@@ -7,9 +7,9 @@ mod limits;
 mod posts;
 mod tables;
 
-use anyhow::Result;
+use std::io;
 
-fn main(rt: HostRuntime) -> Result<()> {
+fn main(rt: HostRuntime) -> io::Result<()> {
     cases::sizes(&rt)?;
     cases::sizes_and_entries(&rt)?;
     cases::holdings_in_turn(&rt)?;

@@ -1,11 +1,11 @@
 //! The posts of the cases: one call, with what differs from case to case.
 use crate::tables::*;
-use anyhow::anyhow;
 use ledger::{CLEAR_HOUR, CLEAR_ROLL, HourAnswer, RollLine};
 use month::{OpenMonth, open};
 use payoff::{Instrument, Obligation, PlainTables};
 use refusals::Refusal;
 use rows::HoldingRow;
+use std::io;
 
 /// How many amounts and how many hour lines a post may write.
 #[derive(Clone, Copy)]
@@ -86,11 +86,11 @@ pub(crate) fn first_hour<I: Instrument>(
 }
 
 /// Opens the month of a roll that no case refuses.
-pub(crate) fn new_month(roll: &mut [RollLine]) -> anyhow::Result<OpenMonth> {
+pub(crate) fn new_month(roll: &mut [RollLine]) -> io::Result<OpenMonth> {
     open(roll).map_err(unexpected)
 }
 
-/// A refusal that no case expects.
-pub(crate) fn unexpected(e: Refusal) -> anyhow::Error {
-    anyhow!("refused where it is not: {e}")
+/// A refusal that no case expects. It goes with the errors of output, which are told as they are.
+pub(crate) fn unexpected(_: Refusal) -> io::Error {
+    io::Error::other("refused where it is not")
 }

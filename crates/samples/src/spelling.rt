@@ -13,10 +13,15 @@ pub(crate) struct Room {
     pub holdings: usize,
 }
 
+/// The value of a hexadecimal digit in lower case, and 0 of any other byte.
 fn digit(b: u8) -> u8
     ensures { result < 16 }
 {
-    (b as char).to_digit(16).unwrap_or(0) as u8
+    match b {
+        // a capital is a digit to the library, and none here
+        b'A'..=b'F' => 0,
+        _ => (b as char).to_digit(16).unwrap_or(0) as u8,
+    }
 }
 
 /// Adds the bytes of a word such as `41` or `0007*32`.
