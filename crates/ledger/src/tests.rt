@@ -19,7 +19,7 @@ pub fn positive_cents(cents: &Cents) -> u64
 pub fn is_within(cents: &Cents, total: u64) -> bool
     ensures { result ≡ within total cents.now }
 {
-    u64::try_from(cents.value).is_ok_and(|value| value <= total)
+    !cents.value.is_negative() && cents.value.unsigned_abs() <= total
 }
 
 impl Sound for LoadLine {

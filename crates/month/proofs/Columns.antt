@@ -1,8 +1,15 @@
 -- The figures of a roll that is the month's.
-use Rattle.std.proofs.Common.{◌≡◌, true, eqb, List, length}
-use Rattle.std.proofs.lemmas.Bool.{and_parts, eqb-true}
+use Rattle.std.proofs.Common.{◌≡◌, ℕ, ◌+◌, ◌<◌, ◌≤◌, Bool, true, ◌&&◌, eqb, leb, List, length, get_or, drop, ℤ, pos, negsuc, ap, ◌∙◌, arith}
+use lib.Signed.{le_z}
+use Rattle.std.proofs.lemmas.List.{at_drop_more}
+use Rattle.std.proofs.lemmas.Bool.{and_parts, leb-true, eqb-true}
+use Rattle.units.specs.Parts.{positive}
 use Rattle.ledger.specs.declared.lines.RollLine.{RollLine}
 use Rattle.ledger.specs.Figures.{Figures, every, within, line_within, column_sum, tied}
+
+pub within_le : (t : ℕ) (z : ℤ) → (le_z (pos 0) z && le_z z (pos t)) ≡ true → positive z ≤ t
+within_le t (pos n) e = leb-true n t (and_parts (leb 0 n) (leb n t) e).1
+within_le t (negsuc n) e = omega arith
 
 -- no figure of a line that fits is above the month's
 pub record LineFits (f : Figures) (x : RollLine) : Type 0 where
@@ -17,6 +24,9 @@ line_fits f x e =
     let b = and_parts (within f.charges x.charge) _ a.1 in
     let c = and_parts (within f.shorts x.short) _ b.1 in
     record { credit = a.0; charge = b.0; short = c.0; refund = c.1 }
+
+pub every_step : {X : Type 0} (p : X → Bool) (xs : List X) (i : ℕ) (d : X) (b : Bool) → i < length xs → p (get_or xs i d) ≡ b → every p (drop i xs) ≡ (b && every p (drop (i + 1) xs))
+every_step p xs i d b h e = at_drop_more (every p) xs i d h ∙ ap (λ t. t && every p (drop (i + 1) xs)) e
 
 -- a roll that is the month's
 pub record Tied (f : Figures) (roll : List RollLine) : Type 0 where

@@ -1,50 +1,18 @@
-ghost use Rattle.std.specs.Prelude.{◌≡◌, ℕ, ◌≤◌, ◌&&◌, length, ◌==◌};
-ghost use Rattle.std.specs.List.{list_all};
-ghost use Rattle.ledger.specs.Figures.{line_within, column_sum, sums_equal, tied};
+ghost use Rattle.std.specs.Prelude.{◌≡◌, ℕ, ◌≤◌, true, false, length, MatchOption};
+ghost use Rattle.sharing.specs.Shares.{limit};
+ghost use Rattle.ledger.specs.Figures.{every, line_within, column_sum, tied};
 ghost use Rattle.month.specs.Months.{of_books};
 
 use crate::books::Books;
 use ledger::{RollLine, is_within, positive_cents};
 
-/// The sum of each figure over a roll, before it is known to be the month's: in 128 bits, where no sum of so few lines can
-/// be too large, so that nothing has to be tested before.
-// each column is summed alike, but a closure that picks one cannot be named in the clauses
+/// The sum of each figure over a roll.
 #[derive(Clone, Copy, PartialEq, Eq)]
 struct RollSums {
-    credits: u128,
-    charges: u128,
-    shorts: u128,
-    refunds: u128,
-}
-
-impl RollSums {
-    /// The sums over a roll, where no figure is negative.
-    fn of(roll: &[RollLine]) -> RollSums
-        requires { length roll.now ≤ 128 }
-        ensures credits { result.credits ≡ column_sum (λ x. x.credit) roll.now }
-        ensures charges { result.charges ≡ column_sum (λ x. x.charge) roll.now }
-        ensures shorts { result.shorts ≡ column_sum (λ x. x.short) roll.now }
-        ensures refunds { result.refunds ≡ column_sum (λ x. x.refund) roll.now }
-    {
-        RollSums {
-            credits: roll
-                .iter()
-                .map(|x| u128::from(positive_cents(&x.credit)))
-                .sum(),
-            charges: roll
-                .iter()
-                .map(|x| u128::from(positive_cents(&x.charge)))
-                .sum(),
-            shorts: roll
-                .iter()
-                .map(|x| u128::from(positive_cents(&x.short)))
-                .sum(),
-            refunds: roll
-                .iter()
-                .map(|x| u128::from(positive_cents(&x.refund)))
-                .sum(),
-        }
-    }
+    credits: u64,
+    charges: u64,
+    shorts: u64,
+    refunds: u64,
 }
 
 impl Books {
@@ -58,34 +26,51 @@ impl Books {
             && is_within(&x.refund, refunds)
     }
 
-    /// Whether no figure of a roll is negative or above the month's.
-    fn bounds_lines(&self, refunds: u64, roll: &[RollLine]) -> bool
-        ensures { result ≡ list_all (line_within (of_books self.now refunds 0 0)) roll.now }
+    /// The sum of each figure over a roll, or none where a figure is negative or above the month's.
+    // one loop: a chain for each column walks the roll five times, and does not know what a line has passed
+    fn sums_over(&self, refunds: u64, roll: &[RollLine]) -> Option<RollSums>
+        requires few { length roll.now ≤ 128 }
+        requires small { refunds ≤ limit }
+        ensures { MatchOption result (every (line_within (of_books self.now refunds 0 0)) roll.now ≡ false) (λ s. (every (line_within (of_books self.now refunds 0 0)) roll.now ≡ true) × ((s.credits ≡ column_sum (λ x. x.credit) roll.now) × ((s.charges ≡ column_sum (λ x. x.charge) roll.now) × ((s.shorts ≡ column_sum (λ x. x.short) roll.now) × (s.refunds ≡ column_sum (λ x. x.refund) roll.now))))) }
     {
-        roll.iter().all(|x| self.bounds_line(refunds, x))
-    }
-
-    /// Whether the sums over a roll are the month's.
-    fn equals_sums(&self, refunds: u64, roll: &[RollLine]) -> bool
-        requires { length roll.now ≤ 128 }
-        ensures { result ≡ sums_equal (of_books self.now refunds 0 0) roll.now }
-    {
-        let own = RollSums {
-            credits: u128::from(self.credits),
-            charges: u128::from(self.charges),
-            shorts: u128::from(self.shorts),
-            refunds: u128::from(refunds),
-        };
-        RollSums::of(roll) == own
+        let mut credits: u64 = 0;
+        let mut charges: u64 = 0;
+        let mut shorts: u64 = 0;
+        let mut repaid: u64 = 0;
+        for x in roll {
+            if !self.bounds_line(refunds, x) {
+                return None;
+            }
+            credits += positive_cents(&x.credit);
+            charges += positive_cents(&x.charge);
+            shorts += positive_cents(&x.short);
+            repaid += positive_cents(&x.refund);
+        }
+        Some(RollSums {
+            credits,
+            charges,
+            shorts,
+            refunds: repaid,
+        })
     }
 
     /// Whether the roll is the one of these books and of what was refunded; the rest of the month has no part in it.
-    #[tactic(auto, unfolding(ledger::specs::Figures::tied))]
     pub(crate) fn holds(&self, refunds: u64, roll: &[RollLine]) -> bool
+        requires { refunds ≤ limit }
         ensures { (balance payments : ℕ) → result ≡ tied (of_books self.now refunds balance payments) roll.now }
     {
-        roll.len() == self.owners
-            && self.bounds_lines(refunds, roll)
-            && self.equals_sums(refunds, roll)
+        if roll.len() != self.owners {
+            return false;
+        }
+        let Some(sums) = self.sums_over(refunds, roll) else {
+            return false;
+        };
+        let own = RollSums {
+            credits: self.credits,
+            charges: self.charges,
+            shorts: self.shorts,
+            refunds,
+        };
+        sums == own
     }
 }
