@@ -13,6 +13,7 @@ use refusals::Refusal;
 
 /// Posts an hour that was read, under an instrument: writes its sheet and its amounts, and answers its figures. A refused
 /// post changes nothing.
+#[tactic(auto, using(crate::proofs::Lent::posted_as_lem))]
 pub fn post_hour<I: Instrument>(
     month: &mut OpenMonth,
     roll: &mut [RollLine],

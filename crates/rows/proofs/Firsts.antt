@@ -1,5 +1,5 @@
 -- What the joined tests of all entries, and the place of one that fails, tell of the first bad entry.
-use Rattle.std.proofs.Common.{◌≡◌, ℕ, zero, suc, ◌+◌, ◌<◌, Bool, true, false, cond, not, ◌&&◌, List, [], ◌∷◌, length, get_or, is_some, Some, None, Option, refl, ◌∙◌, le_of_suc-le-suc, arith}
+use Rattle.std.proofs.Common.{◌≡◌, ℕ, zero, suc, ◌+◌, ◌<◌, Bool, true, false, cond, not, ◌&&◌, List, [], ◌∷◌, length, get_or, is_some, Some, None, Option, refl, sym, ◌∙◌, le_of_suc-le-suc, arith}
 use Rattle.std.specs.Option.{option_map}
 use Rattle.std.specs.List.{fold, position, position_or_len}
 use Rattle.std.specs.Prelude.{nat_lt}
@@ -48,3 +48,11 @@ failing p (x ∷ xs) = next_place (p x) (first_bad p xs) (position_or_len (λ x.
 pub sound_none : (o : Option ℕ) → true ≡ not (is_some o) → None ≡ o
 sound_none None e = refl
 sound_none (Some k) e = absurd (let z : ◌≡◌ {A = Bool} true false = e in grind arith)
+
+-- where all tests joined pass, there is no bad one
+pub none_told : {X : Type 0} (p : X → Bool) (xs : List X) → fold (λ all x. all && p x) true xs ≡ true → None ≡ first_bad p xs
+none_told p xs e = sound_none (first_bad p xs) (sym e ∙ joined p true xs)
+
+-- what is told of the first that fails is told of the first bad one
+pub place_told : {X : Type 0} (p : X → Bool) (xs : List X) (o : Option ℕ) → o ≡ position (λ x. not (p x)) xs → o ≡ first_bad p xs
+place_told p xs o e = e ∙ sym (failing p xs)

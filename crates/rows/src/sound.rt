@@ -66,6 +66,7 @@ fn first_failing<R: Sound>(rows: &[R]) -> Option<usize>
 }
 
 /// The place of the first entry that fails its test, which is looked for only where one does.
+#[tactic(auto, using(crate::proofs::Firsts::none_told, crate::proofs::Firsts::place_told))]
 pub fn first_bad<R: Sound>(rows: &[R]) -> Option<usize>
     ensures { result ≡ first_bad R.ok rows.now }
 {

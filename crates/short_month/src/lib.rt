@@ -49,5 +49,6 @@ pub fn settle_two_hours<I: Instrument>(
         &mut amounts,
     )?;
     let m = m.refund(&mut roll)?;
-    Ok(m.close(&roll, loads)?)
+    let closed = m.close(&roll, loads)?;
+    Ok(closed)
 }
